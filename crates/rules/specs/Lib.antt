@@ -1,0 +1,5 @@
+pub mod Cards
+pub mod Stations
+pub mod Calls
+pub mod Histories
+pub mod Law

@@ -1,0 +1,3 @@
+// The rules of a set on a control channel: what it keeps, what each call makes of it, and the laws of whole runs.
+pub mod card;
+pub mod station;

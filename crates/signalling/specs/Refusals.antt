@@ -1,0 +1,14 @@
+-- The number of each refusal.
+use Prim.Native.Nat.{ℕ}
+use Rattle.signalling.specs.declared.refusal.Refusal.{Refusal}
+use Rattle.signalling.specs.declared.refusal.Refusal.the-variants.{Address, Channel, MostTransmissions, Timer, FirstDelay, SystemCode, ContentField}
+
+-- 11 to 15 go to the installer who makes a set, 21 and 22 to the decoder
+abbrev pub numberOf : Refusal → ℕ
+numberOf Address = 11
+numberOf Channel = 12
+numberOf MostTransmissions = 13
+numberOf Timer = 14
+numberOf FirstDelay = 15
+numberOf SystemCode = 21
+numberOf ContentField = 22
