@@ -3,6 +3,7 @@ use rules::card::Card;
 use rules::station::Station;
 use signalling::refusal::Refusal;
 
+#[derive(Drop)]
 pub struct Set<P> {
     pub(crate) card: Card,
     pub(crate) plan: P,
@@ -10,6 +11,7 @@ pub struct Set<P> {
 }
 
 // A set that was not made: why, and the plan, which goes back to its owner.
+#[derive(Drop)]
 pub struct NotMade<P> {
     pub refusal: Refusal,
     pub plan: P,

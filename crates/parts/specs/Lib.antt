@@ -1,1 +1,5 @@
 pub mod Plans
+pub mod Sources
+pub mod Numbers
+pub mod Lists
+pub mod Services

@@ -1,9 +1,9 @@
 -- The number of each refusal.
 use Prim.Native.Nat.{ℕ}
 use Rattle.signalling.specs.declared.refusal.Refusal.{Refusal}
-use Rattle.signalling.specs.declared.refusal.Refusal.the-variants.{Address, Channel, MostTransmissions, Timer, FirstDelay, SystemCode, ContentField}
+use Rattle.signalling.specs.declared.refusal.Refusal.the-variants.{Address, Channel, MostTransmissions, Timer, FirstDelay, SystemCode, ContentField, ZeroRegister}
 
--- 11 to 15 go to the installer who makes a set, 21 and 22 to the decoder
+-- 11 to 15 go to the installer who makes a set, 21 and 22 to the decoder, 41 to the operator who makes a register source
 abbrev pub numberOf : Refusal → ℕ
 numberOf Address = 11
 numberOf Channel = 12
@@ -12,3 +12,4 @@ numberOf Timer = 14
 numberOf FirstDelay = 15
 numberOf SystemCode = 21
 numberOf ContentField = 22
+numberOf ZeroRegister = 41

@@ -43,8 +43,8 @@ fn slots_hold() -> bool
     reply.leaves_free(5) && !data.leaves_free(5)
 }
 
-// A self test for start-up: the facts hold of the definitions, and the code computes them.
-pub fn self_test() -> bool
+// A self check for start-up: the facts hold of the definitions, and the code computes them.
+pub fn self_check() -> bool
     ensures { λ r. ⌜ r ≡ true ⌝ ∗ ⌜ WorkedFacts ⌝ }
 {
     tables_hold() && divisions_hold() && slots_hold()

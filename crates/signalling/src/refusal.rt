@@ -18,6 +18,8 @@ pub enum Refusal {
     SystemCode,
     // a field of a heard slot's content is out of range
     ContentField,
+    // a register source was to start at 0
+    ZeroRegister,
 }
 
 impl Refusal {
@@ -32,6 +34,7 @@ impl Refusal {
             Refusal::FirstDelay => 15,
             Refusal::SystemCode => 21,
             Refusal::ContentField => 22,
+            Refusal::ZeroRegister => 41,
         }
     }
 }

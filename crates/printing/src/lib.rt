@@ -1,0 +1,5 @@
+// What is printed: one answer a line.
+
+pub mod answer;
+pub mod append;
+pub mod display;
