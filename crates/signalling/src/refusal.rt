@@ -4,6 +4,18 @@ ghost use Rattle.signalling.specs.Refusals.{numberOf};
 
 #[derive(Clone, Copy)]
 pub enum Refusal {
+    // begin without a stay
+    NoStay,
+    // begin with a request open
+    RequestOpen,
+    // a permit is out
+    PermitOut,
+    // sent or held without a permit out, or with an empty one
+    NoPermit,
+    // sent or held with a permit of another address
+    OtherAddress,
+    // cancel with no request open
+    NoRequest,
     // the own address is out of range
     Address,
     // a channel number is out of range
@@ -27,6 +39,12 @@ impl Refusal {
         ensures { λ r. ⌜ r ≡ numberOf self ⌝ }
     {
         match self {
+            Refusal::NoStay => 1,
+            Refusal::RequestOpen => 2,
+            Refusal::PermitOut => 3,
+            Refusal::NoPermit => 4,
+            Refusal::OtherAddress => 5,
+            Refusal::NoRequest => 6,
             Refusal::Address => 11,
             Refusal::Channel => 12,
             Refusal::MostTransmissions => 13,
