@@ -1,19 +1,53 @@
-// Following the control channel: how a heard slot starts, keeps and ends a stay.
+// Following the control channel: how a heard slot starts, keeps and ends a stay, and what is noted in it.
 ghost use mathlib.Core.Path.{_≡_};
-ghost use Rattle.rules.specs.Stations.{acquired, retained, kept, obeyed, acted, told};
+ghost use Rattle.rules.specs.Stations.{newStay, patient, acquired, retained, kept, heeding, seekingOn, obeyed, acted, followed};
+use crate::frames::enter;
+use crate::frames::no_frames;
+use crate::frames::slots_marked;
 use parts::plan::NetworkPlan;
-use rules::station::State;
+use rules::card::Card;
 use rules::station::Station;
 use rules::station::Stay;
+use signalling::content::Content;
+use signalling::content::Function;
+use signalling::content::Heard;
+use signalling::content::Noted;
+
+// A stay as it begins: nothing of what was heard before is in it.
+fn new_stay(card: Card) -> Stay
+    ensures { λ r. ⌜ r ≡ newStay card ⌝ }
+{
+    Stay {
+        patience: card.ts,
+        noted: Noted {
+            function: Function::Alhx,
+            qualifier: 0,
+            address: 0,
+            wait: card.nw,
+        },
+        frames: no_frames(),
+    }
+}
+
+// A stay in which so many more slots in a row without a system code are borne.
+fn bear(stay: Stay, slots: u32) -> Stay
+    ensures { λ r. ⌜ r ≡ patient stay slots ⌝ }
+{
+    Stay {
+        patience: slots,
+        noted: stay.noted,
+        frames: stay.frames,
+    }
+}
 
 // The stay that a slot's system code gives a seeking set.
-pub(crate) fn acquire<P: NetworkPlan>(plan: &P, ts: u32, code: Option<u32>) -> Option<Stay>
-    ensures { λ r. ⌜ r ≡ acquired (accepts (now (plan .entry))) ts code ⌝ }
+fn acquire<P: NetworkPlan>(plan: &P, card: Card, code: Option<u32>) -> Option<Stay>
+    ensures { λ r. ⌜ r ≡ acquired (accepts (now (plan .entry))) card code ⌝ }
 {
     match code {
         Some(code) => {
             if plan.is_accepted(code) {
-                Some(Stay { patience: ts })
+                Some(new_stay(card))
             } else {
                 None
             }
@@ -23,13 +57,13 @@ pub(crate) fn acquire<P: NetworkPlan>(plan: &P, ts: u32, code: Option<u32>) -> O
 }
 
 // The stay that is left to an active set after a slot's system code, or after its absence.
-pub(crate) fn retain<P: NetworkPlan>(plan: &P, ts: u32, stay: Stay, code: Option<u32>) -> Option<Stay>
-    ensures { λ r. ⌜ r ≡ retained (accepts (now (plan .entry))) ts stay code ⌝ }
+fn retain<P: NetworkPlan>(plan: &P, card: Card, stay: Stay, code: Option<u32>) -> Option<Stay>
+    ensures { λ r. ⌜ r ≡ retained (accepts (now (plan .entry))) card stay code ⌝ }
 {
     match code {
         Some(code) => {
             if plan.is_accepted(code) {
-                Some(Stay { patience: ts })
+                Some(bear(stay, card.ts))
             } else {
                 None
             }
@@ -38,37 +72,76 @@ pub(crate) fn retain<P: NetworkPlan>(plan: &P, ts: u32, stay: Stay, code: Option
             if stay.patience <= 1 {
                 None
             } else {
-                Some(Stay {
-                    patience: stay.patience - 1,
-                })
+                Some(bear(stay, stay.patience - 1))
             }
         }
     }
 }
 
-// The station of a set that acts on a move, if it has a stay.
-pub(crate) fn act(stay: Option<Stay>, channel: u32, order: Option<u32>) -> Station
-    ensures { λ r. ⌜ r ≡ acted stay channel order ⌝ }
+// The stay after the system code of a slot, or its absence.
+fn keep<P: NetworkPlan>(plan: &P, card: Card, stay: Option<Stay>, code: Option<u32>) -> Option<Stay>
+    ensures { λ r. ⌜ r ≡ kept (accepts (now (plan .entry))) card stay code ⌝ }
 {
-    match (stay, order) {
-        (None, _) => Station { channel, stay: None },
-        (Some(_), Some(new)) => Station {
-            channel: new,
-            stay: None,
-        },
-        (Some(stay), None) => Station {
+    match stay {
+        Some(stay) => retain(plan, card, stay, code),
+        None => acquire(plan, card, code),
+    }
+}
+
+// Adds what a slot's content says to a stay: an Aloha message is noted first, and a frame starts under the
+// function now noted.
+fn heed(mut stay: Stay, content: &Content) -> Stay
+    ensures { λ r. ⌜ r ≡ heeding stay (now (content .entry)) ⌝ }
+{
+    let noted = content.notes().unwrap_or(stay.noted);
+    stay.noted = noted;
+    enter(&mut stay.frames, noted.function, slots_marked(content));
+    stay
+}
+
+// A station that seeks on a channel.
+pub(crate) fn seek(channel: u32) -> Station
+    ensures { λ r. ⌜ r ≡ seekingOn channel ⌝ }
+{
+    Station {
+        channel,
+        stay: None,
+    }
+}
+
+// An active set leaves for the channel that it is ordered to; else it heeds the content.
+fn obey(order: Option<u32>, channel: u32, stay: Stay, content: &Content) -> Station
+    ensures { λ r. ⌜ r ≡ obeyed order channel stay (now (content .entry)) ⌝ }
+{
+    match order {
+        Some(new) => seek(new),
+        None => Station {
             channel,
-            stay: Some(stay),
+            stay: Some(heed(stay, content)),
         },
     }
 }
 
-// What a set without requests tells of itself.
-pub(crate) fn tell(stay: Option<Stay>) -> State
-    ensures { λ r. ⌜ r ≡ told stay ⌝ }
+// Only a set that is active after the system code acts on the content.
+fn act(stay: Option<Stay>, channel: u32, order: Option<u32>, content: &Content) -> Station
+    ensures { λ r. ⌜ r ≡ acted stay channel order (now (content .entry)) ⌝ }
 {
     match stay {
-        Some(_) => State::Idle,
-        None => State::Seeking,
+        Some(stay) => obey(order, channel, stay, content),
+        None => seek(channel),
     }
+}
+
+// The station after a heard slot.
+pub(crate) fn follow<P: NetworkPlan>(
+    plan: &P,
+    card: Card,
+    station: Station,
+    heard: &Heard,
+) -> Station
+    ensures { λ r. ⌜ r ≡ followed (accepts (now (plan .entry))) card station (now (heard .entry)) ⌝ }
+{
+    let stay = keep(plan, card, station.stay, heard.code);
+    let order = heard.content.moves(card.address);
+    act(stay, station.channel, order, &heard.content)
 }

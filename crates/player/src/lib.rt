@@ -1,4 +1,7 @@
-// Plays scripts to a set: every line is answered by a printed line.
 pub mod bench;
-
+pub mod calls;
+pub mod keyed;
+pub mod keyed_turns;
+pub mod manned;
 pub mod play;
+pub mod turns;

@@ -6,12 +6,12 @@ use lib.Chars.{codes}
 use Rattle.std.specs.Written.{decimal}
 use Rattle.std.specs.declared.option.Option.{Option}
 use Rattle.std.specs.declared.option.Option.the-variants.{None, Some}
-use Rattle.script.specs.Faults.{numberOf, placeOf}
-use Rattle.printing.specs.declared.answer.EndWord.{EndWord}
-use Rattle.printing.specs.declared.answer.EndWord.the-variants.{NoAccess, Unknown, Lost, Withdrawn, Denied, Overload, Accepted, Unavailable, Granted}
-use Rattle.printing.specs.declared.answer.End.{End}
-use Rattle.printing.specs.declared.answer.StateWord.{StateWord}
-use Rattle.printing.specs.declared.answer.StateWord.the-variants.{Seeking, Idle, Try, Wait}
+use Rattle.script.specs.Faults.{number-of, place-of}
+use Rattle.parts.specs.declared.verdict.EndWord.{EndWord}
+use Rattle.parts.specs.declared.verdict.EndWord.the-variants.{NoAccess, Unknown, Lost, Withdrawn, Denied, Overload, Accepted, Unavailable, Granted}
+use Rattle.rules.specs.declared.request.End.{End}
+use Rattle.rules.specs.declared.station.State.{State}
+use Rattle.rules.specs.declared.station.State.the-variants.{Seeking, Idle, Trying, Waiting}
 use Rattle.printing.specs.declared.answer.Answer.{Answer}
 use Rattle.printing.specs.declared.answer.Answer.the-variants.{Done, Heard, Empty, Refused, Bad}
 
@@ -28,11 +28,11 @@ endWord Unavailable = codes "unavailable"
 endWord Granted = codes "granted"
 
 -- the word for a state; without a stay on a channel the bytes are those of s, e, a, r, c and h
-abbrev pub stateWord : StateWord → List ℕ
+abbrev pub stateWord : State → List ℕ
 stateWord Seeking = 115 ∷ 101 ∷ 97 ∷ 114 ∷ 99 ∷ 104 ∷ []
 stateWord Idle = codes "idle"
-stateWord Try = codes "try"
-stateWord Wait = codes "wait"
+stateWord Trying = codes "try"
+stateWord Waiting = codes "wait"
 
 -- an end: its word, the transmissions and the age
 abbrev pub endForm : End → List ℕ
@@ -54,7 +54,7 @@ answerForm (Done end) = codes "(done" ++ lastPart end
 answerForm (Heard state ready end) = codes "(heard " ++ (stateWord state ++ (readyPart ready ++ lastPart end))
 answerForm Empty = codes "(none)"
 answerForm (Refused number) = codes "(no " ++ (decimal number ++ codes ")")
-answerForm (Bad fault) = codes "(bad " ++ (decimal (numberOf fault) ++ (codes " " ++ (decimal (placeOf fault) ++ codes ")")))
+answerForm (Bad fault) = codes "(bad " ++ (decimal (number-of fault) ++ (codes " " ++ (decimal (place-of fault) ++ codes ")")))
 
 -- an answer's line with its line end
 abbrev pub answerLine : Answer → List ℕ

@@ -7,6 +7,24 @@ use Rattle.std.specs.declared.option.Option.the-variants.{None}
 use Rattle.rules.specs.declared.card.Card.{Card}
 use Rattle.rules.specs.Cards.{cardRefusal}
 
--- TS is at least one slot
-pub some-silence : (card : Card) (channel : ℕ) → cardRefusal card channel ≡ None → 1 ≤ card .ts
-some-silence card channel granted = grind (arith, tells)
+pub record Ranged (card : Card) : Type 0 where
+  pub nr-least : 1 ≤ card .nr
+  pub nr-most : card .nr ≤ 32
+  pub tc-least : 1 ≤ card .tc
+  pub tc-most : card .tc ≤ 60000
+  pub ts-least : 1 ≤ card .ts
+  pub tj-least : 1 ≤ card .tj
+  pub tj-most : card .tj ≤ 60000
+  pub nw-most : card .nw ≤ 15
+
+pub ranged : (card : Card) (channel : ℕ) → cardRefusal card channel ≡ None → Ranged card
+ranged card channel granted = record {
+  nr-least = grind (arith, tells);
+  nr-most = grind (arith, tells);
+  tc-least = grind (arith, tells);
+  tc-most = grind (arith, tells);
+  ts-least = grind (arith, tells);
+  tj-least = grind (arith, tells);
+  tj-most = grind (arith, tells);
+  nw-most = grind (arith, tells);
+}

@@ -1,2 +1,10 @@
 pub mod Cards
-pub mod Stay
+mod Counts
+mod Tables
+mod Stays
+mod Tries
+mod Chosen
+mod Tallies
+mod Hosts
+mod Hearing
+pub mod Runs

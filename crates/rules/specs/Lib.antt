@@ -1,5 +1,10 @@
 pub mod Cards
+pub mod Meanings
+pub mod Frames
 pub mod Stations
+pub mod Jobs
+pub mod Choosing
+pub mod Slots
 pub mod Calls
 pub mod Histories
 pub mod Law

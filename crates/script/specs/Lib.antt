@@ -1,2 +1,12 @@
+pub mod Brackets
+pub mod Cursor
+pub mod Decimal
 pub mod Faults
-pub mod Widths
+pub mod Inside
+pub mod Items
+pub mod Judged
+pub mod ReadAs
+pub mod Reading
+pub mod Script
+pub mod Words
+pub mod Writing

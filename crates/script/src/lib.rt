@@ -1,13 +1,16 @@
 // The script's language: one bracketed form a line, in base ten.
 
-pub mod content;
+mod adding;
+pub mod closing;
+mod content;
 pub mod draws;
 pub mod fault;
 pub mod form;
+mod inner;
 pub mod line;
-pub mod make;
-pub mod names;
+mod make;
+mod names;
 pub mod number;
-pub mod reader;
-pub mod steps;
-pub mod words;
+mod reader;
+mod steps;
+mod words;

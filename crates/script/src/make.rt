@@ -1,4 +1,6 @@
 // The form that makes a set.
+ghost use Rattle.script.specs.Cursor.{Follows};
+ghost use Rattle.script.specs.Script.{drawing, draws, drawsForm, makeFields, mask, maskForm};
 use crate::draws::Draws;
 use crate::fault::Fault;
 use crate::form::MakeForm;
@@ -10,35 +12,35 @@ use crate::words::DrawsNameWord;
 use crate::words::MaskNameWord;
 use crate::words::NumberWord;
 
-impl Draws {
-    pub(crate) fn none() -> Draws {
-        Draws { numbers: [0; 16], count: 0 }
-    }
-
-    // One more number, where there is a place for it.
-    pub(crate) fn add(&mut self, number: u32) {
-        if self.count < 16 {
-            self.numbers[self.count] = number;
-            self.count += 1;
-        }
-    }
-}
-
 impl Reader<'_> {
-    // Mask and value: `(mask MASK VALUE)`.
-    fn mask(&mut self) -> Result<(u32, u32), Fault> {
+    // Mask and value in their brackets: `(mask MASK VALUE)`.
+    fn mask_form(&mut self) -> Result<(u32, u32), Fault>
+        ensures { λ r. ⌜ Follows maskForm (now (self .entry)) (now (self .exit)) r ⌝ }
+    {
         self.open()?;
         let _name: MaskName = self.word()?;
-        let mask: u32 = self.field()?;
-        let value: u32 = self.field()?;
+        let (mask, value) = self.two()?;
         self.close()?;
         Ok((mask, value))
     }
 
+    // Mask and value behind a space, read as a line of their own.
+    fn mask(&mut self) -> Result<(u32, u32), Fault>
+        ensures { λ r. ⌜ Follows mask (now (self .entry)) (now (self .exit)) r ⌝ }
+    {
+        self.space()?;
+        let mut inner = self.inner();
+        let mask = inner.mask_form();
+        self.pos = inner.pos;
+        mask
+    }
+
     // Up to 16 numbers, each behind a space.
-    fn numbers(&mut self) -> Result<Draws, Fault> {
+    fn drawing(&mut self) -> Result<Draws, Fault>
+        ensures { λ r. ⌜ Follows drawing (now (self .entry)) (now (self .exit)) r ⌝ }
+    {
         let mut draws = Draws::none();
-        for _ in 0..16 {
+        while draws.count < 16 {
             let Item::Space = self.item() else {
                 return Ok(draws);
             };
@@ -48,28 +50,49 @@ impl Reader<'_> {
         Ok(draws)
     }
 
-    // The draws: `(draws N...)`.
-    fn draws(&mut self) -> Result<Draws, Fault> {
+    // The draws in their brackets: `(draws N...)`.
+    fn draws_form(&mut self) -> Result<Draws, Fault>
+        ensures { λ r. ⌜ Follows drawsForm (now (self .entry)) (now (self .exit)) r ⌝ }
+    {
         self.open()?;
         let _name: DrawsName = self.word()?;
-        let draws = self.numbers()?;
+        let draws = self.drawing()?;
         self.close()?;
         Ok(draws)
     }
 
+    // The draws behind a space, read as a line of their own.
+    fn draws(&mut self) -> Result<Draws, Fault>
+        ensures { λ r. ⌜ Follows draws (now (self .entry)) (now (self .exit)) r ⌝ }
+    {
+        self.space()?;
+        let mut inner = self.inner();
+        let draws = inner.draws_form();
+        self.pos = inner.pos;
+        draws
+    }
+
     // What follows the word `make`.
-    pub(crate) fn make_fields(&mut self) -> Result<MakeForm, Fault> {
-        let address: u32 = self.field()?;
-        let channel: u32 = self.field()?;
-        let nr: u32 = self.field()?;
-        let tc: u32 = self.field()?;
-        let ts: u32 = self.field()?;
-        let tj: u32 = self.field()?;
+    pub(crate) fn make_fields(&mut self) -> Result<MakeForm, Fault>
+        ensures { λ r. ⌜ Follows makeFields (now (self .entry)) (now (self .exit)) r ⌝ }
+    {
+        let (address, channel) = self.two()?;
+        let (nr, tc) = self.two()?;
+        let (ts, tj) = self.two()?;
         let nw: u32 = self.field()?;
-        self.space()?;
         let (mask, value) = self.mask()?;
-        self.space()?;
         let draws = self.draws()?;
-        Ok(MakeForm { address, channel, nr, tc, ts, tj, nw, mask, value, draws })
+        Ok(MakeForm {
+            address,
+            channel,
+            nr,
+            tc,
+            ts,
+            tj,
+            nw,
+            mask,
+            value,
+            draws,
+        })
     }
 }

@@ -32,8 +32,12 @@ pub enum ContentName {
 
 // The word before a mask and its value.
 #[derive(Clone, Copy)]
-pub struct MaskName;
+pub enum MaskName {
+    Mask,
+}
 
 // The word before the draws.
 #[derive(Clone, Copy)]
-pub struct DrawsName;
+pub enum DrawsName {
+    Draws,
+}

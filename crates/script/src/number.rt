@@ -1,19 +1,26 @@
-// Numbers in base ten.
+// Numbers as a script writes them.
 
-// The number that a word of 1 to 7 digits without a needless leading zero stands for.
-pub fn number(bytes: &[u8]) -> Option<u32> {
-    if bytes.len() == 0 || bytes.len() > 7 {
+ghost use Rattle.script.specs.Decimal.{NumberOf};
+
+// The most digits that a number has.
+const MOST_DIGITS: usize = 7;
+
+// The number that the digits write: one to seven of them, with no needless zero in front.
+pub fn number(bytes: &[u8]) -> Option<u32>
+    ensures { λ r. ⌜ NumberOf (now (bytes .entry)) r ⌝ }
+{
+    if bytes.is_empty() || bytes.len() > MOST_DIGITS {
         return None;
     }
-    if bytes.len() > 1 && bytes[0] == b'0' {
+    if bytes[0] == b'0' && bytes.len() > 1 {
         return None;
     }
-    let mut n: u32 = 0;
+    let mut n = 0;
     for b in bytes {
-        match *b {
-            b'0'..=b'9' => n = n.wrapping_mul(10).wrapping_add(u32::from(*b - b'0')),
-            _ => return None,
+        if !b.is_ascii_digit() {
+            return None;
         }
+        n = n * 10 + u32::from(*b - b'0');
     }
     Some(n)
 }

@@ -12,12 +12,13 @@ pub struct Reader<'a> {
     ghost short: { length (now line) ≤ 200 },
 }
 
-// What stands at the cursor: a bracket, a space, a run of other bytes, or the end of the line.
+// What stands at the cursor: a bracket, a space, a word, or the end of the line. A word is a part of the line,
+// a whole run of other bytes, with its place, counted from 1.
 #[derive(Clone, Copy)]
 pub enum Item<'a> {
     Open,
     Close,
     Space,
-    Word(&'a [u8]),
+    Word { bytes: &'a [u8], place: usize },
     End,
 }
