@@ -3,3 +3,4 @@ pub mod Sources
 pub mod Numbers
 pub mod Lists
 pub mod Services
+pub mod Draws

@@ -19,7 +19,15 @@ pub impl Service for EmergencyCall as EmergencyCallService {
     ghost verdict = { λ _. callVerdict };
 
     fn is_invited(&self, function: Function) -> bool {
-        matches!(function, Function::Alh | Function::Alhs | Function::Alhd | Function::Alhe | Function::Alhr | Function::Alhx)
+        matches!(
+            function,
+            Function::Alh
+                | Function::Alhs
+                | Function::Alhd
+                | Function::Alhe
+                | Function::Alhr
+                | Function::Alhx
+        )
     }
 
     fn is_emergency(&self) -> bool {

@@ -12,4 +12,5 @@ pub mod registration;
 pub mod service;
 pub mod simple_call;
 pub mod source;
+pub mod uses;
 pub mod verdict;

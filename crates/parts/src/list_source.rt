@@ -1,6 +1,11 @@
 // A draw source over a given list of numbers.
+ghost use Prim.Native.Nat.{ℕ};
+ghost use mathlib.Core.List.{List};
 ghost use mathlib.Core.Path.{_≡_};
-ghost use Rattle.parts.specs.Lists.{listReady, listDrawn, listFrom};
+ghost use lib.ListN.{length};
+ghost use Rattle.std.specs.Finite.{nth};
+ghost use Rattle.parts.specs.Draws.{afterDraws};
+ghost use Rattle.parts.specs.Lists.{choiceBy, listReady, listDrawn, listFrom};
 use crate::number_list::NumberList;
 use crate::source::DrawSource;
 use signalling::frame_length::FrameLength;
@@ -13,9 +18,11 @@ pub struct ListSource<L> {
 }
 
 impl<L: NumberList> ListSource<L> {
-    // A source over a list of which nothing is used yet.
+    // A source over a list of which nothing is used yet. After so many draws it has the choice ready that the number
+    // at that place gives, and behind the list the first slot.
     pub fn new(list: L) -> ListSource<L>
-        ensures { λ r. ⌜ r ≡ listFrom list ⌝ }
+        ensures answer { λ r. ⌜ r ≡ listFrom list ⌝ }
+        ensures later { λ r. ⌜ ((lengths : List ℕ) (slots : ℕ) → listReady (items list) (afterDraws (λ s _. listDrawn (items list) s) r lengths .used) slots ≡ choiceBy (nth (items list) (length lengths)) slots) ⌝ }
     {
         ListSource { list, used: 0 }
     }

@@ -19,7 +19,10 @@ pub impl Service for Registration as RegistrationService {
     ghost verdict = { λ _. registrationVerdict };
 
     fn is_invited(&self, function: Function) -> bool {
-        matches!(function, Function::Alh | Function::Alhs | Function::Alhd | Function::Alhr)
+        matches!(
+            function,
+            Function::Alh | Function::Alhs | Function::Alhd | Function::Alhr
+        )
     }
 
     fn is_emergency(&self) -> bool {

@@ -113,7 +113,7 @@ impl Bench {
     }
 
     // A line of a script: the bench after it, and what it is answered.
-    pub fn answer(self, line: &[u8]) -> (Bench, Answer)
+    pub(crate) fn answer(self, line: &[u8]) -> (Bench, Answer)
         ensures { λ r. ⌜ Turns r (lineAfter (benchOf self) (reading (now (line .entry)))) (lineAnswer (benchOf self) (reading (now (line .entry)))) ⌝ }
     {
         match read(line) {
@@ -123,7 +123,7 @@ impl Bench {
     }
 
     // The end of a script: a permit that is still out is held back.
-    pub fn clear(self) {
+    pub(crate) fn clear(self) {
         match self {
             Bench::Bare => {}
             Bench::Manned(_set) => {}

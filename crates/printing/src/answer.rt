@@ -7,7 +7,9 @@ use script::fault::Fault;
 #[derive(Clone, Copy)]
 pub enum Answer {
     // the call was granted; a request may have ended by it
-    Done { end: Option<End> },
+    Done {
+        end: Option<End>,
+    },
     // a slot was heard: the state after it, whether a permit is ready, and the end of a request, if it came
     Heard {
         state: State,
@@ -17,7 +19,9 @@ pub enum Answer {
     // there was no permit to take
     Empty,
     // the call was refused
-    Refused { number: u32 },
+    Refused {
+        number: u32,
+    },
     // the line is no form, or out of turn
     Bad(Fault),
 }

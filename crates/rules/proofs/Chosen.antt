@@ -39,8 +39,7 @@ module _ {D S : Type 0} (m : Meaning D S) (lawful : Lawful m) (card : Card) (ran
       let slots = both-true _ _ e in
       let suits = both-true _ _ (slots .1) in
       let some : 0 < marked (h .content) = ltb-true 0 (marked (h .content)) (slots .0) in
-      let inside = lawful .within source (marked (h .content)) (omega (arith, some)) (marked-most (h .content)) in
-      (
+      let inside = lawful .within source (marked (h .content)) (omega (arith, some)) (marked-most (h .content)) in (
         over,
         inside .0,
         record {
@@ -61,8 +60,7 @@ module _ {D S : Type 0} (m : Meaning D S) (lawful : Lawful m) (card : Card) (ran
       let first = both-true _ _ e in
       let rest = both-true _ _ (first .1) in
       let age = eqb-true (l .age) 1 (first .0) in
-      let back = covered-back (card .nw) (st .frames) (h ∷ hs) (is .frames) (m .invites (l .service)) (rest .1) in
-      (
+      let back = covered-back (card .nw) (st .frames) (h ∷ hs) (is .frames) (m .invites (l .service)) (rest .1) in (
         over,
         omega arith,
         record {
@@ -113,8 +111,7 @@ module _ {D S : Type 0} (m : Meaning D S) (lawful : Lawful m) (card : Card) (ran
   pub chooses : (source : D) (l : Live S) (w : ℕ) (job : Job S) → LastJob m card range l (h ∷ hs) w job → DoneJob l w (choosing m (card .address) (leavesFree (h .content) (card .address)) source job st (marked (h .content)))
   chooses source l w Free last = last
   chooses source l w (Trying live window c) last =
-      let late = last .1 in
-      (
+      let late = last .1 in (
         last .0,
         record { few = late .few; young = late .young; spaced = late .spaced; older = late .older; more = late .more; chose = permits live window _ (reaches source live window c w late) },
       )

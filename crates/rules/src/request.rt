@@ -1,7 +1,7 @@
 // What a set keeps of a request.
-use parts::verdict::EndWord;
 use crate::station::State;
 use crate::station::Station;
+use parts::verdict::EndWord;
 
 // How a request ended: its word, its transmissions and the slots that it was open for.
 #[derive(Clone, Copy)]
@@ -41,7 +41,9 @@ pub enum Job<S> {
         window: u32,
         choice: Choice,
     },
-    Waiting { live: Live<S> },
+    Waiting {
+        live: Live<S>,
+    },
 }
 
 // A request on its way through a heard slot: ended, or going on.

@@ -38,7 +38,10 @@ pub enum Content {
     // nothing could be decoded
     Deaf,
     // a data codeword: its reserved slot bit RSA, and whether its message is for this set
-    Data { rsa: u32, mine: u32 },
+    Data {
+        rsa: u32,
+        mine: u32,
+    },
     // an ALOHA message: function, Aloha number N, response delay WT, address qualifier M and address
     Aloha {
         function: Function,
@@ -62,12 +65,20 @@ pub enum Content {
         channel: u32,
         number: u32,
     },
-    // a general availability check; AD says that the addressed unit alone may answer
-    Ahy { ad: u32, to: u32 },
+    // a general availability check; AD is 1 where a data codeword is appended to it
+    Ahy {
+        ad: u32,
+        to: u32,
+    },
     // a status check; `ipfixi` is 1 where its second ident is IPFIXI
-    Ahyq { ipfixi: u32, to: u32 },
+    Ahyq {
+        ipfixi: u32,
+        to: u32,
+    },
     // the head of a short data message
-    Head { to: u32 },
+    Head {
+        to: u32,
+    },
     // a MARK message
     Mark,
     // a broadcast

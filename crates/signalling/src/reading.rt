@@ -65,14 +65,18 @@ impl Content {
     {
         match self {
             Content::Aloha {
-                qualifier, address, ..
+                qualifier,
+                address,
+                ..
             } => *qualifier != 20 || is_applicable(*qualifier, *address, own),
             Content::Reply { .. } | Content::Go { .. } | Content::Mark | Content::Bcast => true,
             Content::Ahy { ad, to } => *ad == 1 && *to != own,
             Content::Ahyq { ipfixi, to } => *ipfixi == 1 && *to != own,
             Content::Head { to } => *to != own,
             Content::Move {
-                qualifier, address, ..
+                qualifier,
+                address,
+                ..
             } => !is_applicable(*qualifier, *address, own),
             Content::Data { rsa, mine } => *rsa == 1 && *mine == 0,
             Content::Deaf | Content::Other => false,

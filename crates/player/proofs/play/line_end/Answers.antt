@@ -6,8 +6,7 @@ pub loop-end-again : need.loop-end-again
 loop-end-again c =
     let inv = c .loop-end .inv in
     let within = c .loop-end-test .taken in
-    let other = c .if-script-end-ne10 .taken in
-    (
+    let other = c .if-script-end-ne10 .taken in (
       omega (arith, inv .0),
       λ _. omega arith,
       line-more (c .args .script .now) (c .args .from) (c .loop-end .end) within (inv .0) other (inv .2),
