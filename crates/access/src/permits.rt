@@ -1,5 +1,5 @@
 // A permit from hand to hand: taken from the set, and brought back as sent or held.
-ghost use mathlib.Core.Bool.{true, false};
+ghost use mathlib.Core.Bool.{false};
 ghost use mathlib.Core.Path.{_≡_};
 ghost use Rattle.std.specs.Results.{isOk};
 ghost use Rattle.rules.specs.Calls.{takenJob, sentJob, heldJob, waitNow, takeAnswer, taken, backAnswer, sentBack, heldBack};

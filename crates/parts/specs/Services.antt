@@ -10,7 +10,6 @@ use Rattle.signalling.specs.declared.content.Function.{Function}
 use Rattle.signalling.specs.declared.content.Function.the-variants.{Alh, Alhs, Alhd, Alhe, Alhr, Alhx, Alhf}
 use Rattle.signalling.specs.declared.content.ReplyKind.{ReplyKind}
 use Rattle.signalling.specs.declared.content.ReplyKind.the-variants.{Ack, Acki, Ackx, Ackv, Acke, Acko}
-use Rattle.parts.specs.declared.verdict.EndWord.{EndWord}
 use Rattle.parts.specs.declared.verdict.EndWord.the-variants.{Denied, Overload, Accepted, Unavailable, Granted}
 use Rattle.parts.specs.declared.verdict.Verdict.{Verdict}
 use Rattle.parts.specs.declared.verdict.Verdict.the-variants.{Nothing, Interim, End}

@@ -1,6 +1,6 @@
 -- What the draw sources have ready, and how a draw moves them on.
 use Prim.Native.Nat.{ℕ, _+_, _/_, _%_}
-use mathlib.Core.Bool.{Bool, cond}
+use mathlib.Core.Bool.{cond}
 use lib.Bits.{bitXor}
 use lib.Dec.{eqb}
 use Rattle.std.specs.declared.result.Result.{Result}

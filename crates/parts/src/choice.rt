@@ -1,5 +1,4 @@
 // A choice among the three services, itself a service.
-ghost use mathlib.Core.Path.{_≡_};
 ghost use Rattle.parts.specs.Services.{choiceInvited, choiceEmergency, choiceVerdict};
 use crate::emergency::EmergencyCall;
 use crate::emergency::EmergencyCallService;

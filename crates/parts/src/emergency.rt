@@ -1,6 +1,5 @@
 // RQE: an emergency call, the only service that is an emergency.
-ghost use mathlib.Core.Bool.{true, false};
-ghost use mathlib.Core.Path.{_≡_};
+ghost use mathlib.Core.Bool.{true};
 ghost use Rattle.parts.specs.Services.{emergencyInvited, callVerdict};
 use crate::answers::judge_call;
 use crate::service::Service;

@@ -1,6 +1,5 @@
 // A network plan that lists its system codes.
 ghost use denote.Ref.{now};
-ghost use mathlib.Core.Path.{_≡_};
 ghost use Rattle.parts.specs.Plans.{standsIn};
 use crate::plan::NetworkPlan;
 

@@ -1,6 +1,5 @@
 // RQR: a registration.
-ghost use mathlib.Core.Bool.{true, false};
-ghost use mathlib.Core.Path.{_≡_};
+ghost use mathlib.Core.Bool.{false};
 ghost use Rattle.parts.specs.Services.{registrationInvited, registrationVerdict};
 use crate::answers::judge_registration;
 use crate::service::Service;

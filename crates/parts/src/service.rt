@@ -1,6 +1,6 @@
 // A service: what a request is for, which frames invite it, and what the network's answers mean to it.
 ghost use Prim.Native.Nat.{ℕ};
-ghost use mathlib.Core.Bool.{Bool, true, false};
+ghost use mathlib.Core.Bool.{Bool, false};
 ghost use mathlib.Core.Path.{_≡_};
 ghost use Rattle.signalling.specs.declared.content.Content.{Content};
 ghost use Rattle.signalling.specs.declared.content.Function.{Function};

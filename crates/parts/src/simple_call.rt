@@ -1,6 +1,5 @@
 // RQS: an ordinary call.
-ghost use mathlib.Core.Bool.{true, false};
-ghost use mathlib.Core.Path.{_≡_};
+ghost use mathlib.Core.Bool.{false};
 ghost use Rattle.parts.specs.Services.{callInvited, callVerdict};
 use crate::answers::judge_call;
 use crate::service::Service;

@@ -1,13 +1,9 @@
 -- What a form does to the set on the bench, and what it is answered.
 use Prim.Native.Nat.{ℕ}
-use mathlib.Core.Bool.{Bool, true, false, cond}
-use mathlib.Core.List.{List}
 use Rattle.std.specs.declared.option.Option.{Option}
 use Rattle.std.specs.declared.option.Option.the-variants.{None, Some}
 use Rattle.std.specs.declared.result.Result.{Result}
 use Rattle.std.specs.declared.result.Result.the-variants.{Ok, Err}
-use Rattle.std.specs.Results.{isOk}
-use Rattle.std.specs.Options.{isSome}
 use Rattle.signalling.specs.declared.content.Heard.{Heard}
 use Rattle.signalling.specs.declared.refusal.Refusal.{Refusal}
 use Rattle.signalling.specs.Refusals.{numberOf}

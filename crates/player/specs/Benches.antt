@@ -1,5 +1,4 @@
 -- The bench as the definitions have it: no set, or a set and the permit that is held for it.
-use Prim.Native.Nat.{ℕ}
 use mathlib.Core.Path.{_≡_}
 use Rattle.std.specs.declared.option.Option.{Option}
 use Rattle.std.specs.declared.option.Option.the-variants.{None, Some}

@@ -5,7 +5,7 @@ use mathlib.Core.List.{List, [], _∷_, _++_}
 use lib.Dec.{ltb}
 use lib.ListN.{length}
 use Rattle.std.specs.declared.option.Option.{Option}
-use Rattle.std.specs.declared.option.Option.the-variants.{None, Some}
+use Rattle.std.specs.declared.option.Option.the-variants.{None}
 use Rattle.script.specs.declared.fault.Fault.the-variants.{InputTooLong}
 use Rattle.script.specs.Judged.{reading}
 use Rattle.printing.specs.declared.answer.Answer.the-variants.{Bad}

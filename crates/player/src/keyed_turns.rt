@@ -1,5 +1,4 @@
 // What a form does for a set that has its permit out.
-ghost use mathlib.Core.Path.{_≡_};
 ghost use Rattle.std.specs.declared.option.Option.the-variants.{Some};
 ghost use Rattle.script.specs.declared.form.Form.the-variants.{Tune, Begin, Take, Sent, Held, Cancel, Slot};
 ghost use Rattle.player.specs.Answers.{manning, callAnswer, callAfter};

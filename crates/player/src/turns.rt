@@ -1,5 +1,4 @@
 // What a form does on the bench.
-ghost use mathlib.Core.Path.{_≡_};
 ghost use Rattle.script.specs.declared.form.Form.the-variants.{Take};
 ghost use Rattle.script.specs.Judged.{reading};
 ghost use Rattle.player.specs.Answers.{manning, madeBy, madeOr, mannedBy, bareAnswer, bareAfter, callAnswer, callAfter, lineAnswer, lineAfter, formAnswer, formAfter};
@@ -15,7 +14,6 @@ use crate::calls::send_empty;
 use crate::calls::tune;
 use crate::keyed::Keyed;
 use crate::manned::ScriptSet;
-use access::permit::Permit;
 use access::set::Set;
 use parts::choice::AnyServiceService;
 use parts::few_numbers::FewNumbers;

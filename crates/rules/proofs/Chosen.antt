@@ -1,10 +1,10 @@
 -- The slot that a request chooses is within its reach, and a permit is ready only for one that is open.
-use Prim.Native.Nat.{ℕ, suc, _+_, _-_, _≤_, _<_}
+use Prim.Native.Nat.{ℕ, _<_}
 use mathlib.Core.Path.{_≡_, refl, sym, ap, subst, _∙_}
 use mathlib.Core.Bool.{Bool, true, false, cond, _&&_}
-use mathlib.Core.List.{List, [], _∷_}
+use mathlib.Core.List.{List, _∷_}
 use native.Mathlib.Omega.{arith}
-use lib.Dec.{leb, eqb, ltb}
+use lib.Dec.{eqb}
 use borrow.Author.Tests.{eqb-true, eqb-false, ltb-true, clash}
 use Rattle.signalling.specs.declared.content.Heard.{Heard}
 use Rattle.signalling.specs.declared.content.Noted.{Noted}
@@ -17,9 +17,7 @@ use Rattle.rules.specs.declared.request.Job.{Job}
 use Rattle.rules.specs.declared.request.Job.the-variants.{Free, Trying, Waiting}
 use Rattle.rules.specs.declared.request.Live.{Live}
 use Rattle.rules.specs.declared.station.Stay.{Stay}
-use Rattle.rules.specs.Choosing.{letIn, suitable, mayChoose, draws, firstTry, chosen, permitted, choiceAfter, choosing}
-use Rattle.rules.specs.Frames.{covered}
-use Rattle.rules.specs.Law.{Reached}
+use Rattle.rules.specs.Choosing.{mayChoose, draws, firstTry, chosen, permitted, choosing}
 use Rattle.rules.specs.Meanings.{Meaning, Lawful}
 use Rattle.rules.proofs.Cards.{Ranged}
 use Rattle.rules.proofs.Counts.{marked-most}
@@ -39,7 +37,7 @@ module _ {D S : Type 0} (m : Meaning D S) (lawful : Lawful m) (card : Card) (ran
       let slots = both-true _ _ e in
       let suits = both-true _ _ (slots .1) in
       let some : 0 < marked (h .content) = ltb-true 0 (marked (h .content)) (slots .0) in
-      let inside = lawful .within source (marked (h .content)) (omega (arith, some)) (marked-most (h .content)) in (
+      let inside = lawful .within source (marked (h .content)) some (marked-most (h .content)) in (
         over,
         inside .0,
         record {

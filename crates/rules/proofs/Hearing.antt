@@ -1,9 +1,9 @@
 -- A heard slot keeps what holds of a set beside its history.
-use Prim.Native.Nat.{ℕ, suc, _+_, _-_, _≤_, _<_}
+use Prim.Native.Nat.{ℕ, _+_, _<_}
 use mathlib.Core.Path.{_≡_, refl, sym, ap, subst, _∙_}
 use mathlib.Core.Logic.{_⊎_, inl, inr}
-use mathlib.Core.Bool.{Bool, true, false, cond, _&&_}
-use mathlib.Core.List.{List, [], _∷_}
+use mathlib.Core.Bool.{Bool, true, false, cond}
+use mathlib.Core.List.{List, _∷_}
 use native.Mathlib.Omega.{arith}
 use lib.Dec.{eqb}
 use borrow.Author.Tests.{clash}
@@ -12,13 +12,11 @@ use Rattle.std.specs.declared.option.Option.the-variants.{None, Some}
 use Rattle.std.specs.declared.result.Result.{Result}
 use Rattle.std.specs.declared.result.Result.the-variants.{Ok, Err}
 use Rattle.std.specs.Options.{isSome, valueOr}
-use Rattle.signalling.specs.declared.content.Content.{Content}
 use Rattle.signalling.specs.declared.content.Heard.{Heard}
 use Rattle.signalling.specs.declared.refusal.Refusal.{Refusal}
 use Rattle.signalling.specs.Range.{heardInRange}
 use Rattle.signalling.specs.Reading.{marked, moved, leavesFree}
 use Rattle.rules.specs.declared.card.Card.{Card}
-use Rattle.rules.specs.declared.request.Choice.{Choice}
 use Rattle.rules.specs.declared.request.Choice.the-variants.{Unchosen, Ahead, Ready, Out}
 use Rattle.rules.specs.declared.request.Condition.{Condition}
 use Rattle.rules.specs.declared.request.End.{End}
@@ -31,19 +29,19 @@ use Rattle.rules.specs.declared.station.State.{State}
 use Rattle.rules.specs.declared.station.Stay.{Stay}
 use Rattle.rules.specs.declared.station.Station.{Station}
 use Rattle.rules.specs.Calls.{ifAnswered, ifGranted, slotAnswer, slotted}
-use Rattle.rules.specs.Choosing.{mayChoose, draws, firstTry, chosen, permitted, choosing, sourceAfter}
-use Rattle.rules.specs.Histories.{Event, slot, Presence, away, present, slotsOf, holds, presence, channelIn}
-use Rattle.rules.specs.Jobs.{lost, aged, raised, through}
+use Rattle.rules.specs.Choosing.{draws, firstTry, chosen, permitted, choosing}
+use Rattle.rules.specs.Histories.{Event, slot, Presence, away, present, slotsOf, holds, channelIn}
+use Rattle.rules.specs.Jobs.{lost, aged, through}
 use Rattle.rules.specs.Law.{Fits}
 use Rattle.rules.specs.Meanings.{Meaning, Lawful}
-use Rattle.rules.specs.Slots.{progressed, left, endIn, jobIn, sourceIn, isOut, outIn, stateOf, stationHeard, progressHeard, heardBy, toldBy}
+use Rattle.rules.specs.Slots.{progressed, left, endIn, jobIn, sourceIn, isOut, outIn, stateOf, heardBy, toldBy}
 use Rattle.rules.specs.Stations.{followed}
 use Rattle.rules.proofs.Cards.{Ranged}
 use Rattle.rules.proofs.Chosen.{DoneJob, chooses}
 use Rattle.rules.proofs.Counts.{raised-one}
 use Rattle.rules.proofs.Stays.{StayIs, PlaceIs, follows-as}
-use Rattle.rules.proofs.Tallies.{Tally, LiveIs, LiveBy, tally, JobIs, Holds, Next, young-enough, try-young, wait-young, one-open, none-open}
-use Rattle.rules.proofs.Tries.{IfGoing, TryIs, WaitIs, LateTry, LastJob, try-through, wait-through}
+use Rattle.rules.proofs.Tallies.{Tally, LiveBy, tally, Holds, Next, young-enough, try-young, wait-young, one-open}
+use Rattle.rules.proofs.Tries.{IfGoing, LastJob, try-through, wait-through}
 
 -- the numbers of a history after one more granted slot call
 abbrev ticked : {S : Type 0} → Tally S → Presence → Option End → Tally S

@@ -6,5 +6,6 @@ mod Tries
 mod Chosen
 mod Tallies
 mod Hosts
+mod Answering
 mod Hearing
 pub mod Runs

@@ -6,11 +6,11 @@ use native.Mathlib.Omega.{arith}
 use Rattle.rules.specs.declared.card.Card.{Card}
 use Rattle.rules.specs.declared.request.Condition.{Condition}
 use Rattle.rules.specs.Histories.{Event, channelIn}
-use Rattle.rules.specs.Law.{AtEvery, Moment, Run, made, tunes, begins, takes, sends, holds, cancels, hears, Kept, RunLaw}
+use Rattle.rules.specs.Law.{AtEvery, Moment, Run, made, tunes, begins, takes, sends, holds, cancels, hears, RunLaw}
 use Rattle.rules.specs.Meanings.{Meaning, Lawful}
 use Rattle.rules.proofs.Cards.{Ranged}
 use Rattle.rules.proofs.Hearing.{slot-next}
-use Rattle.rules.proofs.Hosts.{tune-next, begin-next, take-next, sent-next, held-next, cancel-next}
+use Rattle.rules.proofs.Answering.{tune-next, begin-next, take-next, sent-next, held-next, cancel-next}
 use Rattle.rules.proofs.Tallies.{tally, Holds, Next, moment}
 
 module _ {D S : Type 0} (m : Meaning D S) (lawful : Lawful m) (card : Card) (range : Ranged card) (start : ℕ) (source : D) where

@@ -1,10 +1,9 @@
 -- What a history says in numbers, what holds of a set beside it, and what one more call keeps.
 use Prim.Native.Nat.{ℕ, _+_, _≤_, _<_}
-use mathlib.Core.Path.{_≡_, refl, sym, ap, _∙_}
-use mathlib.Core.Bool.{Bool, true, false, cond}
-use mathlib.Core.List.{List, [], _∷_}
+use mathlib.Core.Path.{_≡_, ap}
+use mathlib.Core.Bool.{Bool, cond}
+use mathlib.Core.List.{List, _∷_}
 use native.Mathlib.Omega.{arith}
-use borrow.Author.Tests.{clash}
 use Rattle.std.specs.declared.option.Option.{Option}
 use Rattle.std.specs.declared.option.Option.the-variants.{None, Some}
 use Rattle.std.specs.Options.{isSome}
@@ -14,7 +13,7 @@ use Rattle.rules.specs.declared.request.Job.{Job}
 use Rattle.rules.specs.declared.request.Job.the-variants.{Free, Trying, Waiting}
 use Rattle.rules.specs.declared.request.Live.{Live}
 use Rattle.rules.specs.Histories.{Event, begunBy, endedBy, handsOver, transmits, holdsBack, count, openIn, slotsHeard, transmissions, slotsSince, permitOut, Presence, slotsOf, presence, waitNoted, channelIn}
-use Rattle.rules.specs.Law.{NewestLawful, NewestTrue, Moment, AtEvery}
+use Rattle.rules.specs.Law.{NewestLawful, NewestTrue, Moment}
 use Rattle.rules.specs.Meanings.{Meaning}
 use Rattle.rules.specs.Slots.{isOut}
 use Rattle.rules.proofs.Cards.{Ranged}

@@ -1,13 +1,12 @@
 -- What holds of an open request between calls, and how a heard slot keeps it, step by step.
 use Prim.Native.Nat.{ℕ, suc, _+_, _-_, _≤_, _<_}
-use mathlib.Core.Path.{_≡_, refl, sym, ap, _∙_}
+use mathlib.Core.Path.{_≡_, refl, sym}
 use mathlib.Core.Bool.{Bool, true, false, cond, _&&_}
-use mathlib.Core.List.{List, [], _∷_}
+use mathlib.Core.List.{List, _∷_}
 use native.Mathlib.Omega.{arith}
-use lib.Dec.{leb, eqb, ltb}
-use borrow.Author.Tests.{leb-true, leb-false, eqb-true, eqb-false, ltb-true, clash}
+use lib.Dec.{leb, eqb}
+use borrow.Author.Tests.{leb-false, eqb-false, clash}
 use Rattle.signalling.specs.declared.content.Heard.{Heard}
-use Rattle.signalling.specs.Reading.{marked, leavesFree}
 use Rattle.parts.specs.declared.verdict.EndWord.{EndWord}
 use Rattle.parts.specs.declared.verdict.EndWord.the-variants.{NoAccess}
 use Rattle.parts.specs.declared.verdict.Verdict.{Verdict}
@@ -19,7 +18,7 @@ use Rattle.rules.specs.declared.request.Job.the-variants.{Free, Trying, Waitin
 use Rattle.rules.specs.declared.request.Live.{Live}
 use Rattle.rules.specs.declared.request.Progress.{Progress}
 use Rattle.rules.specs.declared.request.Progress.the-variants.{Ended, Going}
-use Rattle.rules.specs.Jobs.{raised, endOf, passed, lapsed, aged, judged, answered, timed, tried, waited, onward, through}
+use Rattle.rules.specs.Jobs.{endOf, passed, lapsed, aged, judged, answered, timed, tried, waited, onward, through}
 use Rattle.rules.specs.Histories.{freeNext}
 use Rattle.rules.specs.Law.{Reached}
 use Rattle.rules.specs.Meanings.{Meaning}

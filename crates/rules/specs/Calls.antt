@@ -1,6 +1,6 @@
 -- What each call answers, and the condition of the set after it. A refused call leaves everything as it was.
 use Prim.Native.Nat.{ℕ}
-use mathlib.Core.Bool.{Bool, true, false, cond, _&&_}
+use mathlib.Core.Bool.{cond}
 use lib.Dec.{eqb}
 use Rattle.std.specs.declared.option.Option.{Option}
 use Rattle.std.specs.declared.option.Option.the-variants.{None, Some}
@@ -21,7 +21,6 @@ use Rattle.rules.specs.declared.request.Job.the-variants.{Free, Trying, Waitin
 use Rattle.rules.specs.declared.request.Live.{Live}
 use Rattle.rules.specs.declared.request.Told.{Told}
 use Rattle.rules.specs.declared.station.Stay.{Stay}
-use Rattle.rules.specs.declared.station.Station.{Station}
 use Rattle.rules.specs.Jobs.{raised, opened, endOf, lost}
 use Rattle.rules.specs.Meanings.{Meaning}
 use Rattle.rules.specs.Slots.{endIn, isReady, isOut, isFree, heardBy, toldBy}

@@ -1,6 +1,6 @@
 -- How a request in try chooses a return slot, and when a permit is ready for it.
 use Prim.Native.Nat.{ℕ}
-use mathlib.Core.Bool.{Bool, true, false, cond, _&&_}
+use mathlib.Core.Bool.{Bool, false, cond, _&&_}
 use lib.Dec.{eqb, ltb}
 use Rattle.signalling.specs.declared.content.Noted.{Noted}
 use Rattle.signalling.specs.Division.{admits}
@@ -9,8 +9,6 @@ use Rattle.rules.specs.declared.request.Choice.the-variants.{Unchosen, Ahead, 
 use Rattle.rules.specs.declared.request.Job.{Job}
 use Rattle.rules.specs.declared.request.Job.the-variants.{Free, Trying, Waiting}
 use Rattle.rules.specs.declared.request.Live.{Live}
-use Rattle.rules.specs.declared.request.Progress.{Progress}
-use Rattle.rules.specs.declared.request.Progress.the-variants.{Ended, Going}
 use Rattle.rules.specs.declared.station.Stay.{Stay}
 use Rattle.rules.specs.Frames.{covered}
 use Rattle.rules.specs.Meanings.{Meaning}

@@ -1,11 +1,11 @@
 -- The frames that run side by side: what the newest 32 slots of a stay marked.
 use Prim.Native.Nat.{ℕ, _+_, _-_, _%_}
-use mathlib.Core.Bool.{Bool, true, false, _&&_, _||_}
+use mathlib.Core.Bool.{Bool, false, _&&_, _||_}
 use mathlib.Core.List.{List, [], _∷_}
 use lib.Dec.{ltb}
-use lib.ListN.{set, replicate, getD}
+use lib.ListN.{set, replicate}
 use Rattle.signalling.specs.declared.content.Function.{Function}
-use Rattle.signalling.specs.declared.content.Function.the-variants.{Alh, Alhx}
+use Rattle.signalling.specs.declared.content.Function.the-variants.{Alhx}
 use Rattle.rules.specs.declared.station.Mark.{Mark}
 use Rattle.rules.specs.declared.station.Frames.{Frames}
 

@@ -1,8 +1,7 @@
 -- What a heard slot does to a request, before a slot is chosen for it.
 use Prim.Native.Nat.{ℕ, _+_, _-_, min}
-use mathlib.Core.Bool.{Bool, cond, _&&_}
+use mathlib.Core.Bool.{cond, _&&_}
 use lib.Dec.{leb, eqb}
-use Rattle.signalling.specs.declared.content.Content.{Content}
 use Rattle.parts.specs.declared.verdict.EndWord.{EndWord}
 use Rattle.parts.specs.declared.verdict.EndWord.the-variants.{NoAccess, Lost}
 use Rattle.parts.specs.declared.verdict.Verdict.{Verdict}

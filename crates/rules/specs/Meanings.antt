@@ -1,7 +1,7 @@
 -- What the three parts of a set mean, together.
 use Prim.Native.Nat.{ℕ, _≤_}
 use mathlib.Core.Path.{_≡_}
-use mathlib.Core.Bool.{Bool, true, false}
+use mathlib.Core.Bool.{Bool, false}
 use Rattle.signalling.specs.declared.content.Content.{Content}
 use Rattle.signalling.specs.declared.content.Function.{Function}
 use Rattle.signalling.specs.declared.content.Function.the-variants.{Alhe}

@@ -11,7 +11,6 @@ use Rattle.signalling.specs.declared.content.Heard.{Heard}
 use Rattle.signalling.specs.declared.content.Noted.{Noted}
 use Rattle.signalling.specs.Reading.{marked, moved, noted}
 use Rattle.rules.specs.declared.card.Card.{Card}
-use Rattle.rules.specs.declared.station.Frames.{Frames}
 use Rattle.rules.specs.declared.station.Stay.{Stay}
 use Rattle.rules.specs.declared.station.Station.{Station}
 use Rattle.rules.specs.Frames.{markOf, noFrames, marking}

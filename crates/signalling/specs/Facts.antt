@@ -1,7 +1,7 @@
 -- Worked facts about the definitions, for a reader to check by hand.
 use Prim.Native.Nat.{ℕ}
 use mathlib.Core.Path.{_≡_}
-use mathlib.Core.Bool.{Bool, true, false}
+use mathlib.Core.Bool.{true, false}
 use Rattle.signalling.specs.declared.content.Content.the-variants.{Data, Reply}
 use Rattle.signalling.specs.declared.content.FirstIdent.{FirstIdent}
 use Rattle.signalling.specs.declared.content.ReplyKind.{ReplyKind}

@@ -1,6 +1,6 @@
 // Which numbers a heard slot may hold.
 ghost use mathlib.Core.Path.{_≡_};
-ghost use Rattle.signalling.specs.Range.{addressInRange, channelInRange, firstInRange, contentInRange, codeInRange, heardInRange};
+ghost use Rattle.signalling.specs.Range.{addressInRange, channelInRange, firstInRange, contentInRange, heardInRange};
 use crate::content::Content;
 use crate::content::FirstIdent;
 use crate::content::Heard;
