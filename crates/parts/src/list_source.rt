@@ -22,7 +22,7 @@ impl<L: NumberList> ListSource<L> {
     fn with_used(list: L, used: usize) -> ListSource<L>
         ensures list { result.list ≡ list }
         ensures used { result.used ≡ used }
-        ensures later { (lengths : List ℕ) (slots : ℕ) → list_ready (items list) (after_draws (λ s _. list_drawn (items list) s) result lengths).used slots ≡ choice_by (slice_get (drop used (items list)) (length lengths)) slots }
+        ensures later { (lengths : List ℕ) (slots : ℕ) → list_ready (L.items list) (after_draws (λ s _. list_drawn (L.items list) s) result lengths).used slots ≡ choice_by (slice_get (drop used (L.items list)) (length lengths)) slots }
     {
         ListSource { list, used }
     }
@@ -31,7 +31,7 @@ impl<L: NumberList> ListSource<L> {
     // at that place gives, and behind the list the first slot.
     pub fn new(list: L) -> ListSource<L>
         ensures answer { result ≡ list_from list }
-        ensures later { (lengths : List ℕ) (slots : ℕ) → list_ready (items list) (after_draws (λ s _. list_drawn (items list) s) result lengths).used slots ≡ choice_by (slice_get (items list) (length lengths)) slots }
+        ensures later { (lengths : List ℕ) (slots : ℕ) → list_ready (L.items list) (after_draws (λ s _. list_drawn (L.items list) s) result lengths).used slots ≡ choice_by (slice_get (L.items list) (length lengths)) slots }
     {
         ListSource::with_used(list, 0)
     }

@@ -8,8 +8,8 @@ use signalling::frame_length::FrameLength;
 
 // A slot of a frame, drawn from any source: it lies in the frame.
 pub fn slot_of<D: DrawSource>(source: &mut D, frame: FrameLength) -> u32
-    ensures value { result ≡ ready source.old frame.slots }
-    ensures after { source.new ≡ drawn source.old frame.slots }
+    ensures value { result ≡ D.ready source.old frame.slots }
+    ensures after { source.new ≡ D.drawn source.old frame.slots }
     ensures inside { (1 ≤ result) × (result ≤ frame.slots) }
 {
     source.draw(frame)

@@ -4,9 +4,9 @@ use Rattle.player.proofs.play.play_lines.Goals as goal
 
 pub loop-at-preserved : goal.loop-at-preserved
 loop-at-preserved c =
-    let cut = c.line-end-end.ensures in
+    let cut = c.line_end-end.ensures in
     let turn = c.answer-next.ensures in
-    printed_more _ _ _ _ _ _ c.in-default.ensures
+    printed_more _ _ _ _ _ _ c.in_default.ensures
     (played-more (bench_of c.loop-at.bench) c.args.script.now c.loop-at.at _ _ _ _ c.loop-at-test.true cut.line cut.behind turn.bench turn.answers)
     c.loop-at.invariant
 

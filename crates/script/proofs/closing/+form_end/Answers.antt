@@ -5,12 +5,12 @@ use Rattle.script.proofs.closing.+form_end.Goals as goal
 pub loop-at-init : goal.loop-at-init
 loop-at-init t c = begins _ _ c.requires.within c.requires.opens
 
-pub returns-in-err-at : goal.returns-in-err-at
-returns-in-err-at t c =
-    rw c.from-residual.ensures (λ _. never c.loop-at.invariant (c.in-err-at.ensures (sym c.from.ensures ∙ c.in-40.is)))
+pub returns-in_err-at-in-40 : goal.returns-in_err-at-in-40
+returns-in_err-at-in-40 t c =
+    rw c.from_residual.ensures (λ _. never c.loop-at.invariant (c.in_err-at-in-40.ensures (sym c.from.ensures ∙ c.in-40.is)))
 
 pub loop-at-preserved-in-40 : goal.loop-at-preserved-in-40
-loop-at-preserved-in-40 t c = skips c.loop-at.invariant c.in-ok-at.ensures
+loop-at-preserved-in-40 t c = skips c.loop-at.invariant c.in_ok-at-in-40.ensures
 
 pub returns-in-41 : goal.returns-in-41
 returns-in-41 t c = ends c.loop-at.invariant c.loop-at-test.true (sym c.from.ensures ∙ c.in-41.is)

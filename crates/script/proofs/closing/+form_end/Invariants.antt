@@ -8,5 +8,5 @@ invariant-loop-at l = Standing l.line l.start l.at
 abbrev pub decreases-loop-at : goal.decreases-loop-at
 decreases-loop-at l = length l.line - l.at
 
-abbrev pub decreases-form-end : goal.decreases-form-end
-decreases-form-end l = length l.line.now - l.start
+abbrev pub decreases-form_end : goal.decreases-form_end
+decreases-form_end l = length l.line.now - l.start

@@ -7,17 +7,17 @@ pub returns-in-Open : goal.returns-in-Open
 unfolding code
 returns-in-Open c = none-at-open some_code _ c.in-Open.ensures.ahead
 
-pub returns-in-err-code : goal.returns-in-err-code
+pub returns-in_err-code : goal.returns-in_err-code
 unfolding code
-returns-in-err-code c =
-    hands _ c.from-residual.ensures.1 (some_unless None c.item.result _ c.item.ensures.ahead c.in-default.not-Open (stays _ c.in-err-code.ensures))
+returns-in_err-code c =
+    hands _ c.from_residual.ensures.1 (some_unless None c.item.result _ c.item.ensures.ahead c.in_default.not-Open (stays _ c.in_err-code.ensures))
 
-pub returns-in-err-space : goal.returns-in-err-space
+pub returns-in_err-space : goal.returns-in_err-space
 unfolding code
-returns-in-err-space c =
-    hands _ c.from-residual-in-err-space.ensures.1 (some_unless None c.item.result _ c.item.ensures.ahead c.in-default.not-Open (goes _ c.in-ok-code.ensures (stays _ c.in-err-space.ensures)))
+returns-in_err-space c =
+    hands _ c.from_residual-in_err-space.ensures.1 (some_unless None c.item.result _ c.item.ensures.ahead c.in_default.not-Open (goes _ c.in_ok-code.ensures (stays _ c.in_err-space.ensures)))
 
 pub returns : goal.returns
 unfolding code
 returns c =
-    some_unless None c.item.result _ c.item.ensures.ahead c.in-default.not-Open (goes _ c.in-ok-code.ensures (goes _ c.in-ok-space.ensures done))
+    some_unless None c.item.result _ c.item.ensures.ahead c.in_default.not-Open (goes _ c.in_ok-code.ensures (goes _ c.in_ok-space.ensures done))

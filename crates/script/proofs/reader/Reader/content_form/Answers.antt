@@ -2,22 +2,22 @@ use Rattle.script.specs.Script.{content}
 use Rattle.script.proofs.Follow.{done, goes, hands, stays}
 use Rattle.script.proofs.reader.Reader.content_form.Goals as goal
 
-pub returns-in-err-open : goal.returns-in-err-open
+pub returns-in_err-open : goal.returns-in_err-open
 unfolding content
-returns-in-err-open c = hands _ c.from-residual.ensures.1 (stays _ c.in-err-open.ensures)
+returns-in_err-open c = hands _ c.from_residual.ensures.1 (stays _ c.in_err-open.ensures)
 
-pub returns-in-err-name : goal.returns-in-err-name
+pub returns-in_err-name : goal.returns-in_err-name
 unfolding content
-returns-in-err-name c = hands _ c.from-residual-in-err-name.ensures.1 (goes _ c.in-ok-open.ensures (stays _ c.in-err-name.ensures))
+returns-in_err-name c = hands _ c.from_residual-in_err-name.ensures.1 (goes _ c.in_ok-open.ensures (stays _ c.in_err-name.ensures))
 
-pub returns-in-err-content : goal.returns-in-err-content
+pub returns-in_err-content : goal.returns-in_err-content
 unfolding content
-returns-in-err-content c = hands _ c.from-residual-in-err-content.ensures.1 (goes _ c.in-ok-open.ensures (goes _ c.in-ok-name.ensures (stays _ c.in-err-content.ensures)))
+returns-in_err-content c = hands _ c.from_residual-in_err-content.ensures.1 (goes _ c.in_ok-open.ensures (goes _ c.in_ok-name.ensures (stays _ c.in_err-content.ensures)))
 
-pub returns-in-err-close : goal.returns-in-err-close
+pub returns-in_err-close : goal.returns-in_err-close
 unfolding content
-returns-in-err-close c = hands _ c.from-residual-in-err-close.ensures.1 (goes _ c.in-ok-open.ensures (goes _ c.in-ok-name.ensures (goes _ c.in-ok-content.ensures (stays _ c.in-err-close.ensures))))
+returns-in_err-close c = hands _ c.from_residual-in_err-close.ensures.1 (goes _ c.in_ok-open.ensures (goes _ c.in_ok-name.ensures (goes _ c.in_ok-content.ensures (stays _ c.in_err-close.ensures))))
 
 pub returns : goal.returns
 unfolding content
-returns c = goes _ c.in-ok-open.ensures (goes _ c.in-ok-name.ensures (goes _ c.in-ok-content.ensures (goes _ c.in-ok-close.ensures done)))
+returns c = goes _ c.in_ok-open.ensures (goes _ c.in_ok-name.ensures (goes _ c.in_ok-content.ensures (goes _ c.in_ok-close.ensures done)))

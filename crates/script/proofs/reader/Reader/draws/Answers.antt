@@ -5,10 +5,10 @@ use Rattle.script.proofs.Follow.{goes, hands, stays}
 use Rattle.script.proofs.Shut.{draws-shut}
 use Rattle.script.proofs.reader.Reader.draws.Goals as goal
 
-pub returns-in-err-space : goal.returns-in-err-space
+pub returns-in_err-space : goal.returns-in_err-space
 unfolding draws
-returns-in-err-space c = hands _ c.from-residual.ensures.1 (stays _ c.in-err-space.ensures)
+returns-in_err-space c = hands _ c.from_residual.ensures.1 (stays _ c.in_err-space.ensures)
 
 pub returns : goal.returns
 unfolding draws
-returns c = goes _ c.in-ok-space.ensures (outward draws_form draws-shut c.inner-inner.ensures c.draws-form-draws.ensures _ refl refl)
+returns c = goes _ c.in_ok-space.ensures (outward draws_form draws-shut c.inner-inner.ensures c.draws_form-draws.ensures _ refl refl)

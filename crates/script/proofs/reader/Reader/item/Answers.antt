@@ -19,12 +19,12 @@ pub returns-in-32 : goal.returns-in-32
 returns-in-32 c =
     record { within = omega arith; placed = refl; ahead = at_sign c.args.self.now.line.now c.args.self.now.pos 32 (omega arith) (sym c.from.ensures ∙ c.in-32.is) }
 
-pub returns-in-default : goal.returns-in-default
-returns-in-default c =
+pub returns-in_default : goal.returns-in_default
+returns-in_default c =
     let l = c.args.self.now.line.now in
     let from = c.args.self.now.pos in
-    let to = c.word-end.result in
-    let e = c.word-end.ensures in
+    let to = c.word_end.result in
+    let e = c.word_end.ensures in
     let in-line : from < length l = omega arith in
     let plain : in_word (get_or l from 0) ≡ true = plain_byte (get_or l from 0) (omega (arith, c.from.ensures)) (omega (arith, c.from.ensures)) (omega (arith, c.from.ensures)) in
     let within : to ≤ length l = e.within (omega arith) in

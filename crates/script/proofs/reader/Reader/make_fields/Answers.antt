@@ -2,30 +2,30 @@ use Rattle.script.specs.Script.{make_fields}
 use Rattle.script.proofs.Follow.{done, goes, hands, stays}
 use Rattle.script.proofs.reader.Reader.make_fields.Goals as goal
 
-pub returns-in-err-address : goal.returns-in-err-address
+pub returns-in_err-address : goal.returns-in_err-address
 unfolding make_fields
-returns-in-err-address c = hands _ c.from-residual.ensures.1 (stays _ c.in-err-address.ensures)
+returns-in_err-address c = hands _ c.from_residual.ensures.1 (stays _ c.in_err-address.ensures)
 
-pub returns-in-err-nr : goal.returns-in-err-nr
+pub returns-in_err-nr : goal.returns-in_err-nr
 unfolding make_fields
-returns-in-err-nr c = hands _ c.from-residual-in-err-nr.ensures.1 (goes _ c.in-ok-address.ensures (stays _ c.in-err-nr.ensures))
+returns-in_err-nr c = hands _ c.from_residual-in_err-nr.ensures.1 (goes _ c.in_ok-address.ensures (stays _ c.in_err-nr.ensures))
 
-pub returns-in-err-ts : goal.returns-in-err-ts
+pub returns-in_err-ts : goal.returns-in_err-ts
 unfolding make_fields
-returns-in-err-ts c = hands _ c.from-residual-in-err-ts.ensures.1 (goes _ c.in-ok-address.ensures (goes _ c.in-ok-nr.ensures (stays _ c.in-err-ts.ensures)))
+returns-in_err-ts c = hands _ c.from_residual-in_err-ts.ensures.1 (goes _ c.in_ok-address.ensures (goes _ c.in_ok-nr.ensures (stays _ c.in_err-ts.ensures)))
 
-pub returns-in-err-nw : goal.returns-in-err-nw
+pub returns-in_err-nw : goal.returns-in_err-nw
 unfolding make_fields
-returns-in-err-nw c = hands _ c.from-residual-in-err-nw.ensures.1 (goes _ c.in-ok-address.ensures (goes _ c.in-ok-nr.ensures (goes _ c.in-ok-ts.ensures (stays _ c.in-err-nw.ensures))))
+returns-in_err-nw c = hands _ c.from_residual-in_err-nw.ensures.1 (goes _ c.in_ok-address.ensures (goes _ c.in_ok-nr.ensures (goes _ c.in_ok-ts.ensures (stays _ c.in_err-nw.ensures))))
 
-pub returns-in-err-mask : goal.returns-in-err-mask
+pub returns-in_err-mask : goal.returns-in_err-mask
 unfolding make_fields
-returns-in-err-mask c = hands _ c.from-residual-in-err-mask.ensures.1 (goes _ c.in-ok-address.ensures (goes _ c.in-ok-nr.ensures (goes _ c.in-ok-ts.ensures (goes _ c.in-ok-nw.ensures (stays _ c.in-err-mask.ensures)))))
+returns-in_err-mask c = hands _ c.from_residual-in_err-mask.ensures.1 (goes _ c.in_ok-address.ensures (goes _ c.in_ok-nr.ensures (goes _ c.in_ok-ts.ensures (goes _ c.in_ok-nw.ensures (stays _ c.in_err-mask.ensures)))))
 
-pub returns-in-err-draws : goal.returns-in-err-draws
+pub returns-in_err-draws : goal.returns-in_err-draws
 unfolding make_fields
-returns-in-err-draws c = hands _ c.from-residual-in-err-draws.ensures.1 (goes _ c.in-ok-address.ensures (goes _ c.in-ok-nr.ensures (goes _ c.in-ok-ts.ensures (goes _ c.in-ok-nw.ensures (goes _ c.in-ok-mask.ensures (stays _ c.in-err-draws.ensures))))))
+returns-in_err-draws c = hands _ c.from_residual-in_err-draws.ensures.1 (goes _ c.in_ok-address.ensures (goes _ c.in_ok-nr.ensures (goes _ c.in_ok-ts.ensures (goes _ c.in_ok-nw.ensures (goes _ c.in_ok-mask.ensures (stays _ c.in_err-draws.ensures))))))
 
 pub returns : goal.returns
 unfolding make_fields
-returns c = goes _ c.in-ok-address.ensures (goes _ c.in-ok-nr.ensures (goes _ c.in-ok-ts.ensures (goes _ c.in-ok-nw.ensures (goes _ c.in-ok-mask.ensures (goes _ c.in-ok-draws.ensures done)))))
+returns c = goes _ c.in_ok-address.ensures (goes _ c.in_ok-nr.ensures (goes _ c.in_ok-ts.ensures (goes _ c.in_ok-nw.ensures (goes _ c.in_ok-mask.ensures (goes _ c.in_ok-draws.ensures done)))))

@@ -5,10 +5,10 @@ use Rattle.script.proofs.Follow.{goes, hands, stays}
 use Rattle.script.proofs.Shut.{mask-shut}
 use Rattle.script.proofs.reader.Reader.mask.Goals as goal
 
-pub returns-in-err-space : goal.returns-in-err-space
+pub returns-in_err-space : goal.returns-in_err-space
 unfolding mask
-returns-in-err-space c = hands _ c.from-residual.ensures.1 (stays _ c.in-err-space.ensures)
+returns-in_err-space c = hands _ c.from_residual.ensures.1 (stays _ c.in_err-space.ensures)
 
 pub returns : goal.returns
 unfolding mask
-returns c = goes _ c.in-ok-space.ensures (outward mask_form mask-shut c.inner-inner.ensures c.mask-form-mask.ensures _ refl refl)
+returns c = goes _ c.in_ok-space.ensures (outward mask_form mask-shut c.inner-inner.ensures c.mask_form-mask.ensures _ refl refl)

@@ -2,22 +2,22 @@ use Rattle.script.specs.Script.{reply_fields}
 use Rattle.script.proofs.Follow.{done, goes, hands, stays}
 use Rattle.script.proofs.reader.Reader.reply_fields.Goals as goal
 
-pub returns-in-err-kind : goal.returns-in-err-kind
+pub returns-in_err-kind : goal.returns-in_err-kind
 unfolding reply_fields
-returns-in-err-kind c = hands _ c.from-residual.ensures.1 (stays _ c.in-err-kind.ensures)
+returns-in_err-kind c = hands _ c.from_residual.ensures.1 (stays _ c.in_err-kind.ensures)
 
-pub returns-in-err-qual : goal.returns-in-err-qual
+pub returns-in_err-qual : goal.returns-in_err-qual
 unfolding reply_fields
-returns-in-err-qual c = hands _ c.from-residual-in-err-qual.ensures.1 (goes _ c.in-ok-kind.ensures (stays _ c.in-err-qual.ensures))
+returns-in_err-qual c = hands _ c.from_residual-in_err-qual.ensures.1 (goes _ c.in_ok-kind.ensures (stays _ c.in_err-qual.ensures))
 
-pub returns-in-err-first : goal.returns-in-err-first
+pub returns-in_err-first : goal.returns-in_err-first
 unfolding reply_fields
-returns-in-err-first c = hands _ c.from-residual-in-err-first.ensures.1 (goes _ c.in-ok-kind.ensures (goes _ c.in-ok-qual.ensures (stays _ c.in-err-first.ensures)))
+returns-in_err-first c = hands _ c.from_residual-in_err-first.ensures.1 (goes _ c.in_ok-kind.ensures (goes _ c.in_ok-qual.ensures (stays _ c.in_err-first.ensures)))
 
-pub returns-in-err-to : goal.returns-in-err-to
+pub returns-in_err-to : goal.returns-in_err-to
 unfolding reply_fields
-returns-in-err-to c = hands _ c.from-residual-in-err-to.ensures.1 (goes _ c.in-ok-kind.ensures (goes _ c.in-ok-qual.ensures (goes _ c.in-ok-first.ensures (stays _ c.in-err-to.ensures))))
+returns-in_err-to c = hands _ c.from_residual-in_err-to.ensures.1 (goes _ c.in_ok-kind.ensures (goes _ c.in_ok-qual.ensures (goes _ c.in_ok-first.ensures (stays _ c.in_err-to.ensures))))
 
 pub returns : goal.returns
 unfolding reply_fields
-returns c = goes _ c.in-ok-kind.ensures (goes _ c.in-ok-qual.ensures (goes _ c.in-ok-first.ensures (goes _ c.in-ok-to.ensures done)))
+returns c = goes _ c.in_ok-kind.ensures (goes _ c.in_ok-qual.ensures (goes _ c.in_ok-first.ensures (goes _ c.in_ok-to.ensures done)))
