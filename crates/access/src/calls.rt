@@ -39,7 +39,7 @@ impl<D: DrawSource, S: Service + Drop, P: NetworkPlan> Set<D, S, P> {
     fn fresh(card: Card, channel: u32, source: D, plan: P) -> Set<D, S, P>
         requires { card_refusal card channel ≡ None }
         ensures set { result ≡ fresh_set card channel source plan }
-        ensures law { RunLaw (meaning ready drawn invites emergency verdict (accepts plan)) card channel source }
+        ensures law { RunLaw (meaning D.ready D.drawn S.invites S.emergency S.verdict (P.accepts plan)) card channel source }
     {
         Set {
             card,
@@ -56,7 +56,7 @@ impl<D: DrawSource, S: Service + Drop, P: NetworkPlan> Set<D, S, P> {
     // of it from then on, every history of calls and answers keeps the run law.
     pub fn make(card: Card, channel: u32, source: D, plan: P) -> Result<Set<D, S, P>, NotMade<D, P>>
         ensures answer { result ≡ make_answer card channel source plan }
-        ensures law { is_ok result ≡ true → RunLaw (meaning ready drawn invites emergency verdict (accepts plan)) card channel source }
+        ensures law { is_ok result ≡ true → RunLaw (meaning D.ready D.drawn S.invites S.emergency S.verdict (P.accepts plan)) card channel source }
     {
         match card.refusal(channel) {
             Some(refusal) => Err(NotMade {
@@ -127,8 +127,8 @@ impl<D: DrawSource, S: Service + Drop, P: NetworkPlan> Set<D, S, P> {
 
     // One heard slot.
     pub fn slot(&mut self, heard: &Heard) -> Result<Told, Refusal>
-        ensures answer { result ≡ slot_answer (meaning ready drawn invites emergency verdict (accepts self.old.plan)) self.old.card self.old.condition heard.now }
-        ensures after { self.new ≡ in_condition self.old (slotted (meaning ready drawn invites emergency verdict (accepts self.old.plan)) self.old.card self.old.condition heard.now) }
+        ensures answer { result ≡ slot_answer (meaning D.ready D.drawn S.invites S.emergency S.verdict (P.accepts self.old.plan)) self.old.card self.old.condition heard.now }
+        ensures after { self.new ≡ in_condition self.old (slotted (meaning D.ready D.drawn S.invites S.emergency S.verdict (P.accepts self.old.plan)) self.old.card self.old.condition heard.now) }
         ensures refused { is_ok result ≡ false → self.new ≡ self.old }
     {
         if is_out(&self.condition.job) {

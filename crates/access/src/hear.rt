@@ -21,7 +21,7 @@ use std::mem::replace;
 impl<D: DrawSource, S: Service + Drop, P: NetworkPlan> Set<D, S, P> {
     // Takes the request through the slot: it is lost where the slot left the set without a stay.
     fn carry(&mut self, content: &Content) -> Progress<S>
-        ensures answer { result ≡ progressed (meaning ready drawn invites emergency verdict (accepts self.old.plan)) self.old.card self.old.condition.station.stay self.old.condition.job content.now }
+        ensures answer { result ≡ progressed (meaning D.ready D.drawn S.invites S.emergency S.verdict (P.accepts self.old.plan)) self.old.card self.old.condition.station.stay self.old.condition.job content.now }
         ensures after { self.new ≡ in_condition self.old (working self.old.condition Free) }
     {
         let job = replace(&mut self.condition.job, Job::Free);
@@ -33,7 +33,7 @@ impl<D: DrawSource, S: Service + Drop, P: NetworkPlan> Set<D, S, P> {
 
     // Has what is left of the request choose a slot, where the set has a stay.
     fn settle(&mut self, progress: Progress<S>, content: &Content)
-        ensures { self.new ≡ in_condition self.old (chosen_in (meaning ready drawn invites emergency verdict (accepts self.old.plan)) self.old.card self.old.condition progress content.now) }
+        ensures { self.new ≡ in_condition self.old (chosen_in (meaning D.ready D.drawn S.invites S.emergency S.verdict (P.accepts self.old.plan)) self.old.card self.old.condition progress content.now) }
     {
         let job = left_of(progress);
         self.condition.job = match &self.condition.station.stay {
@@ -50,8 +50,8 @@ impl<D: DrawSource, S: Service + Drop, P: NetworkPlan> Set<D, S, P> {
 
     // Hears a slot whose numbers are in range, while no permit is out.
     pub(crate) fn hear(&mut self, heard: &Heard) -> Told
-        ensures answer { result ≡ told_by (meaning ready drawn invites emergency verdict (accepts self.old.plan)) self.old.card self.old.condition heard.now }
-        ensures after { self.new ≡ in_condition self.old (heard_by (meaning ready drawn invites emergency verdict (accepts self.old.plan)) self.old.card self.old.condition heard.now) }
+        ensures answer { result ≡ told_by (meaning D.ready D.drawn S.invites S.emergency S.verdict (P.accepts self.old.plan)) self.old.card self.old.condition heard.now }
+        ensures after { self.new ≡ in_condition self.old (heard_by (meaning D.ready D.drawn S.invites S.emergency S.verdict (P.accepts self.old.plan)) self.old.card self.old.condition heard.now) }
     {
         follow(&self.plan, self.card, &mut self.condition.station, heard);
         let progress = self.carry(&heard.content);

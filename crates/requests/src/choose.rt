@@ -18,21 +18,21 @@ use signalling::frame_length::FrameLength;
 
 // Whether the noted division lets a service in.
 fn is_let_in<S: Service>(service: &S, noted: Noted, own: u32) -> bool
-    ensures { result ≡ admits (emergency service.now) noted.qualifier noted.address own }
+    ensures { result ≡ admits (S.emergency service.now) noted.qualifier noted.address own }
 {
     is_admitted(service.is_emergency(), noted.qualifier, noted.address, own)
 }
 
 // Whether a frame marked now is suitable for a service: its function invites it and the division lets it in.
 fn is_suitable<S: Service>(service: &S, noted: Noted, own: u32) -> bool
-    ensures { result ≡ (invites service.now noted.function && admits (emergency service.now) noted.qualifier noted.address own) }
+    ensures { result ≡ (S.invites service.now noted.function && admits (S.emergency service.now) noted.qualifier noted.address own) }
 {
     service.is_invited(noted.function) && is_let_in(service, noted, own)
 }
 
 // The first-try option: at the first slot after a request was opened, a running frame may cover the next one.
 fn is_first_try<S: Service>(live: &Live<S>, stay: &Stay, own: u32) -> bool
-    ensures { result ≡ (live.now.age == 1 && (admits (emergency live.now.service) stay.now.noted.qualifier stay.now.noted.address own && covered (invites live.now.service) stay.now.frames)) }
+    ensures { result ≡ (live.now.age == 1 && (admits (S.emergency live.now.service) stay.now.noted.qualifier stay.now.noted.address own && covered (S.invites live.now.service) stay.now.frames)) }
 {
     live.age == 1
         && is_let_in(&live.service, stay.noted, own)
@@ -47,8 +47,8 @@ fn pick<D: DrawSource, S: Service>(
     frame: Option<FrameLength>,
     own: u32,
 ) -> Choice
-    ensures choice { result ≡ chosen (meaning ready drawn invites emergency verdict any_code) own source.old live.now stay.now (slots_of frame) }
-    ensures after { source.new ≡ (if draws (meaning ready drawn invites emergency verdict any_code) own live.now.service stay.now (slots_of frame) then drawn source.old (slots_of frame) else source.old) }
+    ensures choice { result ≡ chosen (meaning D.ready D.drawn S.invites S.emergency S.verdict any_code) own source.old live.now stay.now (slots_of frame) }
+    ensures after { source.new ≡ (if draws (meaning D.ready D.drawn S.invites S.emergency S.verdict any_code) own live.now.service stay.now (slots_of frame) then D.drawn source.old (slots_of frame) else source.old) }
 {
     if let Some(frame) = frame {
         if is_suitable(&live.service, stay.noted, own) {
@@ -102,8 +102,8 @@ fn choice_after<D: DrawSource, S: Service>(
     content: &Content,
     own: u32,
 ) -> Choice
-    ensures choice { result ≡ choice_after (meaning ready drawn invites emergency verdict any_code) own (leaves_free content.now own) source.old live.now window choice stay.now (marked content.now) }
-    ensures after { source.new ≡ (if may_choose window choice && draws (meaning ready drawn invites emergency verdict any_code) own live.now.service stay.now (marked content.now) then drawn source.old (marked content.now) else source.old) }
+    ensures choice { result ≡ choice_after (meaning D.ready D.drawn S.invites S.emergency S.verdict any_code) own (leaves_free content.now own) source.old live.now window choice stay.now (marked content.now) }
+    ensures after { source.new ≡ (if may_choose window choice && draws (meaning D.ready D.drawn S.invites S.emergency S.verdict any_code) own live.now.service stay.now (marked content.now) then D.drawn source.old (marked content.now) else source.old) }
 {
     let free = content.leaves_free(own);
     if may_choose(window, choice) {
@@ -121,8 +121,8 @@ pub fn choose<D: DrawSource, S: Service + Drop>(
     content: &Content,
     own: u32,
 ) -> Job<S>
-    ensures job { result ≡ choosing (meaning ready drawn invites emergency verdict any_code) own (leaves_free content.now own) source.old job stay.now (marked content.now) }
-    ensures after { source.new ≡ source_after (meaning ready drawn invites emergency verdict any_code) own source.old job stay.now (marked content.now) }
+    ensures job { result ≡ choosing (meaning D.ready D.drawn S.invites S.emergency S.verdict any_code) own (leaves_free content.now own) source.old job stay.now (marked content.now) }
+    ensures after { source.new ≡ source_after (meaning D.ready D.drawn S.invites S.emergency S.verdict any_code) own source.old job stay.now (marked content.now) }
 {
     match job {
         Job::Trying {

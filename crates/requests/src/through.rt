@@ -104,7 +104,7 @@ fn judge_waiting<S: Drop>(verdict: Verdict, live: Live<S>) -> Progress<S>
 
 // An open request ages, and heeds what the content means to its service.
 fn answer<S: Service + Drop>(job: Job<S>, content: &Content, own: u32) -> Progress<S>
-    ensures { result ≡ answered (λ s. verdict s content.now own) job }
+    ensures { result ≡ answered (λ s. S.verdict s content.now own) job }
 {
     match job {
         Job::Free => Progress::Going(Job::Free),
@@ -191,7 +191,7 @@ fn wait<S: Drop>(card: Card, job: Job<S>) -> Progress<S>
 
 // A request through a slot that leaves the set active: it lapses, ages, heeds, tries and waits.
 pub fn go_through<S: Service + Drop>(card: Card, job: Job<S>, content: &Content) -> Progress<S>
-    ensures { result ≡ through (λ s. verdict s content.now card.address) card job }
+    ensures { result ≡ through (λ s. S.verdict s content.now card.address) card job }
 {
     let job = match answer(lapse(job), content, card.address) {
         Progress::Going(job) => job,

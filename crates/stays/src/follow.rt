@@ -26,7 +26,7 @@ fn new_stay(card: Card) -> Stay
 
 // The stay that a slot's system code gives a seeking set.
 fn acquire<P: NetworkPlan>(plan: &P, card: Card, code: Option<u32>) -> Option<Stay>
-    ensures { result ≡ acquired (accepts plan.now) card code }
+    ensures { result ≡ acquired (P.accepts plan.now) card code }
 {
     match code {
         Some(code) => {
@@ -43,7 +43,7 @@ fn acquire<P: NetworkPlan>(plan: &P, card: Card, code: Option<u32>) -> Option<St
 // Whether a slot's system code, or its absence, leaves an active set its stay: an accepted code renews the patience
 // with slots that have none, and each of those slots uses it up.
 fn retain<P: NetworkPlan>(plan: &P, card: Card, stay: &mut Stay, code: Option<u32>) -> bool
-    ensures { (if result then Some stay.new else None) ≡ retained (accepts plan.now) card stay.old code }
+    ensures { (if result then Some stay.new else None) ≡ retained (P.accepts plan.now) card stay.old code }
 {
     match code {
         Some(code) => {
@@ -60,7 +60,7 @@ fn retain<P: NetworkPlan>(plan: &P, card: Card, stay: &mut Stay, code: Option<u3
 
 // The stay after the system code of a slot, or its absence.
 fn keep<P: NetworkPlan>(plan: &P, card: Card, stay: &mut Option<Stay>, code: Option<u32>)
-    ensures { stay.new ≡ kept (accepts plan.now) card stay.old code }
+    ensures { stay.new ≡ kept (P.accepts plan.now) card stay.old code }
 {
     match stay {
         Some(active) => {
@@ -109,7 +109,7 @@ fn act(station: &mut Station, order: Option<u32>, content: &Content)
 
 // Follows the channel through a heard slot.
 pub fn follow<P: NetworkPlan>(plan: &P, card: Card, station: &mut Station, heard: &Heard)
-    ensures { station.new ≡ followed (accepts plan.now) card station.old heard.now }
+    ensures { station.new ≡ followed (P.accepts plan.now) card station.old heard.now }
 {
     keep(plan, card, &mut station.stay, heard.code);
     let order = heard.content.moves(card.address);
