@@ -10,5 +10,6 @@ pub fn append(printed: &mut String, answer: &Answer) -> fmt::Result
     ensures { OnOk result (string_bytes printed.new ≡ string_bytes printed.old ++ answer_line answer.now) }
 {
     let answer = *answer;
-    writeln!(printed, "{answer}")
+    writeln!(printed, "{answer}")?;
+    Ok(())
 }
