@@ -1,4 +1,6 @@
 // airbench: plays the script on standard input to a set, and prints a line for each of its lines.
+#![tactic(auto)]
+
 use anyhow::anyhow;
 use player::play::play;
 use std::io::{Read, Write};

@@ -1,4 +1,6 @@
 // Plays each script of data/ and compares what it prints with the lines that were worked out by hand.
+#![tactic(auto)]
+
 use anyhow::anyhow;
 use player::play::play;
 use std::fs;

@@ -1,4 +1,6 @@
 // The parts that a set is made with. Each is a trait that says what an implementation means, and by which laws.
+#![tactic(auto)]
+
 mod answers;
 pub mod choice;
 pub mod emergency;

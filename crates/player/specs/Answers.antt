@@ -1,6 +1,5 @@
 -- What a form does to the set on the bench, and what it is answered.
 use Rattle.std.specs.Prelude.{ℕ, Some, None, Ok, Err, Option, Result}
-use Rattle.signalling.specs.declared.content.Heard.{Heard}
 use Rattle.signalling.specs.declared.refusal.Refusal.{Refusal}
 use Rattle.signalling.specs.Refusals.{number_of}
 use Rattle.parts.specs.declared.choice.AnyService.{AnyService}

@@ -1,4 +1,5 @@
 // What is printed: one answer a line.
+#![tactic(auto)]
 
 pub mod answer;
 pub mod append;

@@ -18,7 +18,7 @@ use Rattle.rules.specs.declared.station.State.{State}
 use Rattle.rules.specs.declared.station.Stay.{Stay}
 use Rattle.rules.specs.declared.station.Station.{Station}
 use Rattle.rules.specs.Calls.{if_answered, if_granted, slot_answer, slotted}
-use Rattle.rules.specs.Choosing.{draws, first_try, chosen, permitted, choosing}
+use Rattle.rules.specs.Choosing.{draws, first_try, permitted, choosing}
 use Rattle.rules.specs.Histories.{Event, slot, Presence, away, present, slots_of, holds, channel_in}
 use Rattle.rules.specs.Jobs.{lost, aged, through}
 use Rattle.rules.specs.Law.{Fits}

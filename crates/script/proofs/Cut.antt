@@ -5,7 +5,7 @@ use Rattle.std.proofs.lemmas.Bool.{cases_lt}
 use Rattle.std.specs.List.{between}
 use Rattle.script.specs.declared.fault.Fault.{Fault}
 use Rattle.script.specs.declared.reader.Reader.{Reader}
-use Rattle.script.specs.Brackets.{Closes, ClosesAt}
+use Rattle.script.specs.Brackets.{Closes}
 use Rattle.script.specs.Cursor.{line_of, outcome, Follows, Placed}
 use Rattle.script.specs.Inside.{Inside, up_to}
 use Rattle.script.specs.Items.{Item, opening, closing, space, word, end, before, items, joined}

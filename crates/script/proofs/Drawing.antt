@@ -1,5 +1,5 @@
 -- Draws that are read one by one are the draws that are read together.
-use Rattle.std.proofs.Common.{◌≡◌, ℕ, zero, suc, ◌+◌, ◌-◌, ◌<◌, ◌≤◌, min, List, [], ◌∷◌, ◌++◌, length, set, Ok, Err, Result, sym, refl, ap, ◌∙◌, subst, append_assoc, append-nil, arith, length-append}
+use Rattle.std.proofs.Common.{◌≡◌, ℕ, zero, suc, ◌+◌, ◌-◌, ◌<◌, ◌≤◌, List, [], ◌∷◌, ◌++◌, length, set, Ok, Err, sym, refl, ap, ◌∙◌, subst, append_assoc, append-nil, arith, length-append}
 use mathlib.Core.HLevel.{is_prop→PathP}
 use native.Mathlib.Bridge.{le_prop}
 use Rattle.script.specs.declared.draws.Draws.{Draws}
@@ -9,7 +9,7 @@ use Rattle.script.specs.declared.reader.Item.{Item as Seen}
 use Rattle.script.specs.declared.reader.Item.TheVariants.{Open, Close, Space, Word, End}
 use Rattle.script.specs.Cursor.{ahead, line_of, rest, Follows}
 use Rattle.script.specs.Items.{Item, space}
-use Rattle.script.specs.Reading.{Out, got, stuck, Reads, after_space, bind, gives, then}
+use Rattle.script.specs.Reading.{Out, got, stuck, bind, gives, then}
 use Rattle.script.specs.Script.{drawing, drawn, number, numbers, padded}
 
 -- the numbers that are read already stand before those that follow

@@ -1,5 +1,5 @@
 -- Reading that stays inside brackets does not depend on what stands behind the closing one.
-use Rattle.std.proofs.Common.{◌≡◌, ℕ, zero, suc, ◌⊎◌, List, [], ◌∷◌, ◌++◌, Some, None, Option, sym, refl, ap, ◌∙◌, subst, inl, inr, ⊎_elim}
+use Rattle.std.proofs.Common.{◌≡◌, ℕ, ◌⊎◌, List, [], ◌∷◌, ◌++◌, Some, None, Option, refl, ap, ◌∙◌, inl, inr, ⊎_elim}
 use Rattle.script.specs.Items.{Item, opening, closing, space, word, end}
 use Rattle.script.specs.Reading.{Out, got, stuck, Reads, after_space, bind, closes, field, gives, known, means, opens, parts, then}
 

@@ -2,7 +2,6 @@
 use Rattle.std.proofs.Common.{ℕ, zero, suc, [], ◌∷◌}
 use Rattle.script.specs.declared.names.ContentName.{ContentName}
 use Rattle.script.specs.declared.names.ContentName.TheVariants.{Deaf, Data, Aloha, Reply, Go, Ahy, Ahyq, Head, Mark, Bcast, Move, Other}
-use Rattle.script.specs.Reading.{Reads}
 use Rattle.script.specs.Script.{ahy_fields, ahyq_fields, aloha_fields, content, content_fields, data_fields, drawing, draws_form, go_fields, head_fields, mask_form, move_fields, numbers, reply_fields, two}
 use Rattle.script.specs.Words.{content_of, draws_of, first_of, function_of, kind_of, mask_of, number_in}
 use Rattle.script.proofs.Inward.{Inward, Shut, after-space-inward, close-shut, field-inward, gives-inward, means-inward, opens-inward, then-inward, then-shut}

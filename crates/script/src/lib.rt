@@ -1,4 +1,5 @@
 // The script's language: one bracketed form a line, in base ten.
+#![tactic(auto)]
 
 mod adding;
 pub mod closing;

@@ -1,4 +1,5 @@
 // Lines of a script, read by hand: where each is at fault, and what some say.
+#![tactic(auto)]
 
 #[cfg(test)]
 mod tests {
@@ -124,8 +125,10 @@ mod tests {
         assert_eq!(rt; make.nw, 7);
         assert_eq!(rt; make.value, 9);
         assert_eq!(rt; make.draws.count, 3);
-        assert_eq!(rt; make.draws.numbers[2], 22);
-        assert_eq!(rt; make.draws.numbers[3], 0);
+        let third = make.draws.numbers[2];
+        let fourth = make.draws.numbers[3];
+        assert_eq!(rt; third, 22);
+        assert_eq!(rt; fourth, 0);
         Ok(())
     }
 }

@@ -1,4 +1,6 @@
 // What a heard slot of an MPT 1327 control channel says. Nothing of a set or of a base station stands here.
+#![tactic(auto)]
+
 pub mod content;
 pub mod division;
 pub mod facts;

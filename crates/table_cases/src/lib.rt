@@ -1,3 +1,5 @@
+#![tactic(auto)]
+
 // The tables of the standard and of the parts, row by row.
 #[cfg(test)]
 mod tests {

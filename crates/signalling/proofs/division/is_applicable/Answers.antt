@@ -1,5 +1,5 @@
 -- A qualifier of 32 and more compares all the bits that a number of 32 bits has.
-use Rattle.std.proofs.Common.{◌≡◌, ℕ, ◌%◌, ◌^◌, ◌<◌, ◌≤◌, lt_of_lt_of_le, mod-eq_of_lt, pow_mono, rules}
+use Rattle.std.proofs.Common.{◌≡◌, ℕ, ◌%◌, ◌^◌, ◌<◌, ◌≤◌, lt_of_lt_of_le, mod-eq_of_lt, pow_mono}
 use Rattle.signalling.proofs.division.is_applicable.Goals as goal
 
 whole : (x m : ℕ) → x < 2 ^ 32 → 32 ≤ m → x % 2 ^ m ≡ x
