@@ -1,6 +1,6 @@
 -- The draws are read exactly where they are written.
 use Rattle.std.proofs.Common.{◌≡◌, ℕ, zero, suc, ◌≤◌, min, List, [], ◌∷◌, ◌++◌, map, length, take, codes, decimal, sym, refl, ap, ◌∙◌, subst, append_assoc, arith}
-use Rattle.std.specs.List.{AllByRecursion as All}
+use Rattle.std.specs.List.{AllByRecursion}
 use Rattle.std.proofs.lemmas.List.{length-take}
 use Rattle.script.specs.declared.draws.Draws.{Draws}
 use Rattle.script.specs.declared.names.DrawsName.{DrawsName}
@@ -20,7 +20,7 @@ abbrev listed : List ℕ → List Item
 listed ns = spaced (map decimal ns)
 
 abbrev Few : ℕ → List ℕ → Type 0
-Few most ns = All Small ns × (length ns ≤ most)
+Few most ns = AllByRecursion Small ns × (length ns ≤ most)
 
 from-numbers : (most : ℕ) → From (numbers most) listed (Few most) []
 unfolding numbers
@@ -61,7 +61,7 @@ to_draw_drawn : (ns : List ℕ) → length ns ≤ 16 → to_draw (drawn ns) ≡ 
 to_draw_drawn ns h = let few : min (length ns) 16 ≡ length ns = omega arith in ap (λ k. take k (padded 16 ns)) few ∙ take-padded 16 ns h
 
 small-drawn : (ns : List ℕ) → Few 16 ns → SmallDraws (drawn ns)
-small-drawn ns g = let same = to_draw_drawn ns g.1 in record { all = subst (All Small) (sym same) g.0; past = ap (padded 16) (sym same) }
+small-drawn ns g = let same = to_draw_drawn ns g.1 in record { all = subst (AllByRecursion Small) (sym same) g.0; past = ap (padded 16) (sym same) }
 
 to_draw_few : (d : Draws) → SmallDraws d → length (to_draw d) ≡ d.count
 to_draw_few d g = let long : length d.numbers ≡ 16 = ap length g.past ∙ length-padded 16 (to_draw d) in length-take d.count d.numbers ∙ omega (arith, d.few)

@@ -2,7 +2,7 @@
 use Rattle.std.proofs.Common.{◌≡◌, ℕ, ◌<◌, true, List, [], ◌∷◌, ◌++◌, map, length, Some, None, codes, decimal, Option, sym, refl, subst, append_assoc, arith}
 use Rattle.std.specs.Str.Parse.{AllDigits}
 use Rattle.std.specs.Int.{IsInRange}
-use Rattle.std.specs.List.{AllByRecursion as All}
+use Rattle.std.specs.List.{AllByRecursion}
 use Rattle.std.proofs.lemmas.Str.Parse.{digit_from_value}
 use Rattle.std.proofs.lemmas.Bool.{and_from}
 use Rattle.std.proofs.lemmas.Bool.Decides.{nat_tests}
@@ -44,7 +44,7 @@ proper-digits (b ∷ c ∷ bs) d h = and_from _ _ (digit_in b (digit_from_value 
 proper-number : (n : ℕ) → Small n → Proper (decimal n)
 proper-number n small = let p = plain_decimal n small in proper-digits (decimal n) p.digits p.trim.some
 
-proper-numbers : (ns : List ℕ) → All Small ns → All Proper (map decimal ns)
+proper-numbers : (ns : List ℕ) → AllByRecursion Small ns → AllByRecursion Proper (map decimal ns)
 proper-numbers [] g = tt
 proper-numbers (n ∷ ns) g = (proper-number n g.0, proper-numbers ns g.1)
 
@@ -99,7 +99,7 @@ proper-content content.Bcast = refl
 proper-content content.Move = refl
 proper-content content.Other = refl
 
-proper_fields : (x : Content) → SmallContent x → All Proper (field_words x)
+proper_fields : (x : Content) → SmallContent x → AllByRecursion Proper (field_words x)
 proper_fields Deaf g = tt
 proper_fields (Data a b) g = (proper-number a g.0, (proper-number b g.1, tt))
 proper_fields (Aloha f a b c d) g = (proper-function f, (proper-number a g.0, (proper-number b g.1, (proper-number c g.2, (proper-number d g.3, tt)))))
@@ -130,7 +130,7 @@ segment-append {xs} {ys} p q = record { before = λ ts h. subst Clear (sym (appe
 segment-space : {xs : List Item} → Segment xs → Segment (space ∷ xs)
 segment-space p = record { before = λ ts h. (tt, (p.before ts h).1) }
 
-segment-spaced : (ws : List (List ℕ)) → All Proper ws → Segment (spaced ws)
+segment-spaced : (ws : List (List ℕ)) → AllByRecursion Proper ws → Segment (spaced ws)
 segment-spaced [] g = segment-none
 segment-spaced (w ∷ ws) g = record { before = λ ts h. let rest = (segment-spaced ws g.1).before ts h in (tt, (g.0, rest.0, rest.1)) }
 

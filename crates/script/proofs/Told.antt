@@ -2,7 +2,7 @@
 use Rattle.std.proofs.Common.{◌≡◌, ℕ, Bool, true, false, cond, List, [], ◌∷◌, Some, None, codes, decimal, Option, sym, refl, ap, ◌∙◌, subst, ⊎_elim, arith}
 use Rattle.std.specs.Option.{option_map}
 use Rattle.std.specs.Str.Parse.{digits_value, AllDigits}
-use Rattle.std.specs.List.{AllByRecursion as All}
+use Rattle.std.specs.List.{AllByRecursion}
 use Rattle.std.specs.Str.{bytes_eq}
 use Rattle.std.proofs.lemmas.Fmt.{decimal_is_IsNumeral}
 use Rattle.std.proofs.lemmas.Slice.Eq.{bytes_eq-Decides}
@@ -37,7 +37,7 @@ abbrev pub Any : {A : Type 0} → A → Type 0
 Any a = Unit {0}
 
 -- a table whose rows each have the word of their value
-named-sound : {A : Type 0} (word_for : A → List ℕ) (rows : List (List ℕ × A)) → All (λ row. row.0 ≡ word_for row.1) rows → (bs : List ℕ) (a : A) → named rows bs ≡ Some a → bs ≡ word_for a
+named-sound : {A : Type 0} (word_for : A → List ℕ) (rows : List (List ℕ × A)) → AllByRecursion (λ row. row.0 ≡ word_for row.1) rows → (bs : List ℕ) (a : A) → named rows bs ≡ Some a → bs ≡ word_for a
 named-sound word_for [] all bs a e = absurd (let z : ◌≡◌ {A = ℕ} 0 1 = cc in omega arith)
 named-sound {A} word_for (row ∷ rows) all bs a e = go (named-sound word_for rows all.1 bs a) (bytes_eq bs row.0) refl
   where
@@ -48,7 +48,7 @@ named-sound {A} word_for (row ∷ rows) all bs a e = go (named-sound word_for ro
         (bytes_eq-Decides bs row.0).0 is ∙ all.0 ∙ ap word_for same
     go more false is = more (sym (ap (λ b. cond b (Some row.1) (named rows bs)) is) ∙ e)
 
-tells_table : {A : Type 0} (word_for : A → List ℕ) (rows : List (List ℕ × A)) → All (λ row. row.0 ≡ word_for row.1) rows → ((a : A) → named rows (word_for a) ≡ Some a) → Tells (named rows) word_for Any
+tells_table : {A : Type 0} (word_for : A → List ℕ) (rows : List (List ℕ × A)) → AllByRecursion (λ row. row.0 ≡ word_for row.1) rows → ((a : A) → named rows (word_for a) ≡ Some a) → Tells (named rows) word_for Any
 tells_table word_for rows all each = record { sound = λ bs a e. (named-sound word_for rows all bs a e, tt); complete = λ a _. each a }
 
 pub tells-service : Tells service_of service_word Any

@@ -1,6 +1,6 @@
 -- How a form is written: the words for its values, and the items of its line.
 use Rattle.std.specs.Prelude.{◌≡◌, ℕ, ◌^◌, ◌<◌, List, [], ◌∷◌, ◌++◌, map, take, Some, None, codes, decimal, Option}
-use Rattle.std.specs.List.{AllByRecursion as All}
+use Rattle.std.specs.List.{AllByRecursion}
 use Rattle.signalling.specs.declared.content.Content.{Content}
 use Rattle.signalling.specs.declared.content.Content.TheVariants.{Deaf, Data, Aloha, Reply, Go, Ahy, Ahyq, Head, Mark, Bcast, Move, Other}
 use Rattle.signalling.specs.declared.content.Heard.{Heard}
@@ -189,7 +189,7 @@ draws_items d = bracketed (codes "draws") (spaced (map decimal (to_draw d)))
 
 -- each number drawn has at most seven digits, and 0 stands in the places past them
 pub record SmallDraws (d : Draws) : Type 0 where
-  pub all : All Small (to_draw d)
+  pub all : AllByRecursion Small (to_draw d)
   pub past : d.numbers ≡ padded 16 (to_draw d)
 
 -- the words of the seven numbers before the mask
