@@ -1,19 +1,20 @@
 #!/usr/bin/env bash
 # A permit that was brought back cannot be brought back again: the compiler refuses it as a value that has moved.
-# The same function with one return is accepted, so that the refusal is of the second return and of nothing else.
+# The same function with one return is proved, so that the refusal is of the second return and of nothing else.
 set -u
 top=$(cd "$(dirname "$0")/.." && pwd)
 work=$(mktemp -d)
 trap 'rm -rf "$work"' EXIT
 mkdir -p "$work/crates/misuse/src"
 for c in signalling parts rules stays requests access; do cp -r "$top/crates/$c" "$work/crates/"; done
-[ -d "$top/target" ] && cp -r "$top/target" "$work/"
 grep -E '^(signalling|parts|rules|stays|requests|access):' "$top/crates.txt" > "$work/crates.txt"
 echo 'misuse: signalling parts rules stays requests access' >> "$work/crates.txt"
 
-# Writes a function that takes a permit and brings it back by the lines given, and prints what the compiler says.
-compile() {
+# Writes a function that takes a permit and brings it back by the lines given, and prints what the check says.
+check() {
     cat > "$work/crates/misuse/src/lib.rt" <<EOF
+#![tactic(auto)]
+
 use access::permit::Kept;
 use access::set::Set;
 use parts::plan::NetworkPlan;
@@ -25,12 +26,15 @@ pub fn bring_back<D: DrawSource, S: Service + Drop, P: NetworkPlan>(set: &mut Se
     $1
 }
 EOF
-    (cd "$work" && rt mir misuse 2>&1)
+    (cd "$work/crates/misuse" && rt check 2>&1)
 }
 
-once=$(compile 'set.sent(permit)')
-case "$once" in *'error['*) echo "a permit brought back once is refused: $once" | tail -3; exit 1 ;; esac
-twice=$(compile 'set.sent(permit)?; set.sent(permit)')
+once=$(check 'set.sent(permit)')
+case "$once" in
+    *'fn misuse::bring_back: proved'*) ;;
+    *) echo "a permit brought back once is refused: $once" | tail -3; exit 1 ;;
+esac
+twice=$(check 'set.sent(permit)?; set.sent(permit)')
 case "$twice" in
     *'error[borrow-e0382]: use of moved value: `permit`'*) echo 'a permit brought back twice is refused' ;;
     *) echo "a permit brought back twice is not refused: $twice" | tail -3; exit 1 ;;

@@ -50,9 +50,12 @@ def declared():
                     if answers and 'pub' in words[:2]:
                         continue
                     (types.add if head[0][0].isupper() else lambda n: values.setdefault(n, set()).add(f))(head[0])
-            elif inside:
-                m = re.match(r'\s+(?:pub )?(' + NAME + r') :', line)
-                if m:
+            else:
+                # a field, a constructor, or a name that a module inside the file declares
+                m = re.match(r'\s+(?:(?:abbrev|unfoldable|pub) )*(' + NAME + r')(?: [({].*)? :', line)
+                if m and (inside or '=' not in line) and m.group(1)[0].isupper():
+                    types.add(m.group(1))
+                elif m and (inside or '=' not in line):
                     values.setdefault(m.group(1), set()).add(f)
     return values, types
 
@@ -66,7 +69,7 @@ def respelt(name, names):
     out = parts[0]
     for before, part in zip(parts, parts[1:]):
         out += ('-' if before in names and part in names else '_') + part
-    return out
+    return out if out == name else respelt(out, names)
 
 
 def main():

@@ -23,9 +23,9 @@ still_none xs i k e =
     (order i (length xs))
 
 module _ {L : Type 0} (xs : List ℕ) where
-  pub list-after : (s : ListSource L) (lengths : List ℕ) → slice_get xs (after_draws (λ s _. list_drawn xs s) s lengths).used ≡ slice_get xs (s.used + length lengths)
-  list-after s [] = ap (slice_get xs) (omega arith)
-  list-after s (slots ∷ more) = by (slice_get xs s.used) refl (list-after (list_drawn xs s) more)
+  pub list_after : (s : ListSource L) (lengths : List ℕ) → slice_get xs (after_draws (λ s _. list_drawn xs s) s lengths).used ≡ slice_get xs (s.used + length lengths)
+  list_after s [] = ap (slice_get xs) (omega arith)
+  list_after s (slots ∷ more) = by (slice_get xs s.used) refl (list_after (list_drawn xs s) more)
     where
       by : (o : Option ℕ) → slice_get xs s.used ≡ o → slice_get xs (after_draws (λ s _. list_drawn xs s) (list_drawn xs s) more).used ≡ slice_get xs (used_up (slice_get xs s.used) s.used + length more) → slice_get xs (after_draws (λ s _. list_drawn xs s) (list_drawn xs s) more).used ≡ slice_get xs (s.used + suc (length more))
       by (Some n) e ih = ih ∙ ap (λ o. slice_get xs (used_up o s.used + length more)) e ∙ ap (slice_get xs) (omega arith)

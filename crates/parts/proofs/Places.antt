@@ -5,11 +5,11 @@ use Rattle.std.proofs.lemmas.Option.{slice_get-get_or, slice_get_past}
 
 module _ (xs : List ℕ) (n i : ℕ) where
   -- before n, the first n elements read as all do
-  pub nth-front : i < n → i < length xs → slice_get (take n xs) i ≡ Some (get_or xs i 0)
-  nth-front lt within =
+  pub nth_front : i < n → i < length xs → slice_get (take n xs) i ≡ Some (get_or xs i 0)
+  nth_front lt within =
       let long : i < length (take n xs) = omega (arith, length-take n xs) in
       slice_get-get_or (take n xs) i 0 long ∙ ap (λ (x : ℕ). Some x) (get_or-take n xs i 0 lt)
 
   -- behind n, or behind the list, there is nothing
-  pub nth-behind : min n (length xs) ≤ i → slice_get (take n xs) i ≡ None
-  nth-behind le = slice_get_past (take n xs) i (omega (arith, length-take n xs))
+  pub nth_behind : min n (length xs) ≤ i → slice_get (take n xs) i ≡ None
+  nth_behind le = slice_get_past (take n xs) i (omega (arith, length-take n xs))

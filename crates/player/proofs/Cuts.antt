@@ -43,11 +43,11 @@ module _ (xs : List ℕ) (from i : ℕ) (within : i < length xs) (onward : from 
 
 -- the end of the script closes the line
 module _ (xs : List ℕ) (from i : ℕ) (past : length xs ≤ i) where
-  pub line-stops : first_line (drop from xs) ≡ take (i - from) (drop from xs) ++ first_line (drop i xs) → first_line (drop from xs) ≡ take (i - from) (drop from xs)
-  line-stops e = e ∙ ap (λ l. take (i - from) (drop from xs) ++ l) (at_drop_all first_line xs i past) ∙ append-nil _
+  pub line_stops : first_line (drop from xs) ≡ take (i - from) (drop from xs) ++ first_line (drop i xs) → first_line (drop from xs) ≡ take (i - from) (drop from xs)
+  line_stops e = e ∙ ap (λ l. take (i - from) (drop from xs) ++ l) (at_drop_all first_line xs i past) ∙ append-nil _
 
-  pub behind-stops : behind_line (drop from xs) ≡ behind_line (drop i xs) → behind_line (drop from xs) ≡ drop (i + 1) xs
-  behind-stops e = e ∙ at_drop_all behind_line xs i past ∙ sym (drop_all (i + 1) xs (omega arith))
+  pub behind_stops : behind_line (drop from xs) ≡ behind_line (drop i xs) → behind_line (drop from xs) ≡ drop (i + 1) xs
+  behind_stops e = e ∙ at_drop_all behind_line xs i past ∙ sym (drop_all (i + 1) xs (omega arith))
 
 -- what is left of a script from a place within it has a first line
 pub lines_on : (xs : List ℕ) (i : ℕ) → i < length xs → lines (drop i xs) ≡ first_line (drop i xs) ∷ lines (behind_line (drop i xs))

@@ -17,9 +17,9 @@ module _ (b : Option Manning) (xs : List ℕ) (i : ℕ) where
       ap (played_on b) cut ∙ ap (λ a. answer_line a ++ played_on (line_after b (reading line)) (lines rest)) (sym told) ∙ ap (λ m. answer_line answer ++ played_on m (lines rest)) (sym so)
 
   -- behind the last line nothing is played
-  pub played-over : length xs ≤ i → played_on b (lines (drop i xs)) ≡ []
+  pub played_over : length xs ≤ i → played_on b (lines (drop i xs)) ≡ []
   unfolding played_on
-  played-over past = ap (played_on b) (lines_over xs i past)
+  played_over past = ap (played_on b) (lines_over xs i past)
 
 -- a printed line moves from what is left to what is printed
 pub printed_more : (printed printed' line left left' whole : List ℕ) → printed' ≡ printed ++ line → left ≡ line ++ left' → printed ++ left ≡ whole → printed' ++ left' ≡ whole

@@ -73,25 +73,25 @@ module _ {D S : Type 0} (m : Meaning D S) (lawful : Lawful m) (card : Card) (ran
   chosen-reached source l window c w late over false true p q = first-reached l window c w late over q
   chosen-reached source l window c w late over false false p q = tt
 
-  may-reach : (source : D) (l : Live S) (window : ℕ) (w : ℕ) → LateTry m card range l window Unchosen (h ∷ hs) w → (b : Bool) → eqb window 0 ≡ b → MidChoice m card range l window (h ∷ hs) (cond b (chosen m card.address source l st (marked h.content)) Unchosen)
-  may-reach source l window w late true e = chosen-reached source l window Unchosen w late (eqb-true window 0 e) _ _ refl refl
-  may-reach source l window w late false e = tt
+  may_reach : (source : D) (l : Live S) (window : ℕ) (w : ℕ) → LateTry m card range l window Unchosen (h ∷ hs) w → (b : Bool) → eqb window 0 ≡ b → MidChoice m card range l window (h ∷ hs) (cond b (chosen m card.address source l st (marked h.content)) Unchosen)
+  may_reach source l window w late true e = chosen-reached source l window Unchosen w late (eqb-true window 0 e) _ _ refl refl
+  may_reach source l window w late false e = tt
 
   reaches : (source : D) (l : Live S) (window : ℕ) (c : Choice) (w : ℕ) → LateTry m card range l window c (h ∷ hs) w → MidChoice m card range l window (h ∷ hs) (cond (may_choose window c) (chosen m card.address source l st (marked h.content)) c)
-  reaches source l window Unchosen w late = may-reach source l window w late _ refl
+  reaches source l window Unchosen w late = may_reach source l window w late _ refl
   reaches source l window (Ahead n) w late = late.chose
   reaches source l window Ready w late = absurd late.chose
   reaches source l window Out w late = absurd late.chose
 
   -- a chosen slot that comes next is permitted where it is free
-  next-permitted : (l : Live S) (window n : ℕ) → MidChoice m card range l window (h ∷ hs) (Ahead n) → (b free : Bool) → eqb n 1 ≡ b → leaves_free h.content card.address ≡ free → ChoiceIs m card range l window (h ∷ hs) (cond b (cond free Ready Unchosen) (Ahead n))
-  next-permitted l window n mid true true e f = (mid.0, subst (ReachedBy m card range l (h ∷ hs)) (eqb-true n 1 e) mid.2, f)
-  next-permitted l window n mid true false e f = tt
-  next-permitted l window n mid false free e f = let apart = eqb-false n 1 e in (mid.0, omega (arith, mid.1, apart), mid.2)
+  next_permitted : (l : Live S) (window n : ℕ) → MidChoice m card range l window (h ∷ hs) (Ahead n) → (b free : Bool) → eqb n 1 ≡ b → leaves_free h.content card.address ≡ free → ChoiceIs m card range l window (h ∷ hs) (cond b (cond free Ready Unchosen) (Ahead n))
+  next_permitted l window n mid true true e f = (mid.0, subst (ReachedBy m card range l (h ∷ hs)) (eqb-true n 1 e) mid.2, f)
+  next_permitted l window n mid true false e f = tt
+  next_permitted l window n mid false free e f = let apart = eqb-false n 1 e in (mid.0, omega (arith, mid.1, apart), mid.2)
 
   permits : (l : Live S) (window : ℕ) (c : Choice) → MidChoice m card range l window (h ∷ hs) c → ChoiceIs m card range l window (h ∷ hs) (permitted (leaves_free h.content card.address) c)
   permits l window Unchosen mid = tt
-  permits l window (Ahead n) mid = next-permitted l window n mid _ _ refl refl
+  permits l window (Ahead n) mid = next_permitted l window n mid _ _ refl refl
   permits l window Ready mid = absurd mid
   permits l window Out mid = absurd mid
 

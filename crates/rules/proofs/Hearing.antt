@@ -29,8 +29,8 @@ use Rattle.rules.proofs.Cards.{Ranged}
 use Rattle.rules.proofs.Chosen.{DoneJob, chooses}
 use Rattle.rules.proofs.Counts.{raised-one}
 use Rattle.rules.proofs.Stays.{StayIs, PlaceIs, follows_as}
-use Rattle.rules.proofs.Tallies.{Tally, LiveBy, tally, Holds, Next, young-enough, try-young, wait-young, one-open}
-use Rattle.rules.proofs.Tries.{IfGoing, LastJob, try-through, wait-through}
+use Rattle.rules.proofs.Tallies.{Tally, LiveBy, tally, Holds, Next, young_enough, try_young, wait-young, one-open}
+use Rattle.rules.proofs.Tries.{IfGoing, LastJob, try_through, wait-through}
 
 -- the numbers of a history after one more granted slot call
 abbrev ticked : {S : Type 0} → Tally S → Presence → Option End → Tally S
@@ -61,7 +61,7 @@ module _ {D S : Type 0} (m : Meaning D S) (lawful : Lawful m) (card : Card) (ran
   -- a set that is not out agrees with the numbers of its history
   record Ready-to-hear (s : Station) (job : Job S) (source : D) : Type 0 where
     holds : Holds m card range t (record { station = s; job = job; source = source })
-    not-out : is_out job ≡ false
+    not_out : is_out job ≡ false
 
   -- what holds after the slot: the numbers, and that the state told fits
   record Told-so (p : Presence) (end : Option End) (s : Station) (job : Job S) (source : D) : Type 0 where
@@ -76,11 +76,11 @@ module _ {D S : Type 0} (m : Meaning D S) (lawful : Lawful m) (card : Card) (ran
         holds = record {
           place = place;
           job = refl;
-          out = k.out ∙ r.not-out;
+          out = k.out ∙ r.not_out;
           permits = k.permits;
           requests = omega (arith, k.requests, one-open m card range t l.service is.service);
           most = k.most;
-          soon = omega (arith, counted t.request l.service t.age is.service, young-enough m card range l t is young);
+          soon = omega (arith, counted t.request l.service t.age is.service, young_enough m card range l t is young);
         };
         fits = fits;
       }
@@ -97,7 +97,7 @@ module _ {D S : Type 0} (m : Meaning D S) (lawful : Lawful m) (card : Card) (ran
   -- the stay is over
   lost-so : (s s' : Station) (job : Job S) (source : D) → Ready-to-hear s job source → s'.stay ≡ None → PlaceIs card s'.stay away → Fits {S = S} (state_of {S = S} s'.stay Free) away None → Told-so away (end_in (lost job)) s' (left (lost job)) source
   lost-so s s' Free source r gone place fits = idle-so away s s' source source r place fits
-  lost-so s s' (Trying l window c) source r gone place fits = let k = r.holds in ended_so l _ away s s' (Trying l window c) source source r k.job.0 (try-young m card range l t window c k.job.1) place fits
+  lost-so s s' (Trying l window c) source r gone place fits = let k = r.holds in ended_so l _ away s s' (Trying l window c) source source r k.job.0 (try_young m card range l t window c k.job.1) place fits
   lost-so s s' (Waiting l) source r gone place fits = let k = r.holds in ended_so l _ away s s' (Waiting l) source source r k.job.0 (wait-young m card range l k.job.1) place fits
 
 -- no permit is out once a slot was heard
@@ -119,23 +119,23 @@ module _ {D S : Type 0} (m : Meaning D S) (lawful : Lawful m) (card : Card) (ran
   abbrev here : Station
   here = record { channel = channel; stay = Some st }
 
-  abbrev now-present : Presence
-  now-present = present (h ∷ slots_of t.stay)
+  abbrev now_present : Presence
+  now_present = present (h ∷ slots_of t.stay)
 
   abbrev choose : D → Job S → Job S
   choose source job = choosing m card.address (leaves_free h.content card.address) source job st (marked h.content)
 
-  chosen-not-out : (source : D) (l : Live S) (w : ℕ) (job : Job S) → LastJob m card range l (h ∷ slots_of t.stay) w job → is_out (choose source job) ≡ false
-  chosen-not-out source l w Free last = refl
-  chosen-not-out source l w (Trying live window Unchosen) last = may_not_out (leaves_free h.content card.address) (eqb window 0) (draws m card.address live.service st (marked h.content)) (first_try m card.address live st) (m.ready source (marked h.content))
-  chosen-not-out source l w (Trying live window (Ahead n)) last = next_not_out (eqb n 1) (leaves_free h.content card.address) n
-  chosen-not-out source l w (Trying live window Ready) last = absurd last.1.chose
-  chosen-not-out source l w (Trying live window Out) last = absurd last.1.chose
-  chosen-not-out source l w (Waiting live) last = refl
+  chosen_not_out : (source : D) (l : Live S) (w : ℕ) (job : Job S) → LastJob m card range l (h ∷ slots_of t.stay) w job → is_out (choose source job) ≡ false
+  chosen_not_out source l w Free last = refl
+  chosen_not_out source l w (Trying live window Unchosen) last = may_not_out (leaves_free h.content card.address) (eqb window 0) (draws m card.address live.service st (marked h.content)) (first_try m card.address live st) (m.ready source (marked h.content))
+  chosen_not_out source l w (Trying live window (Ahead n)) last = next_not_out (eqb n 1) (leaves_free h.content card.address) n
+  chosen_not_out source l w (Trying live window Ready) last = absurd last.1.chose
+  chosen_not_out source l w (Trying live window Out) last = absurd last.1.chose
+  chosen_not_out source l w (Waiting live) last = refl
 
   -- the request kept is a slot older, as the history's is
-  older-so : (l live : Live S) → LiveBy l t → l.age < card.tc + card.tj → live ≡ aged l → LiveBy live (ticked t now-present None)
-  older-so l live by young e =
+  older_so : (l live : Live S) → LiveBy l t → l.age < card.tc + card.tj → live ≡ aged l → LiveBy live (ticked t now_present None)
+  older_so l live by young e =
       let age = raised-one l.age (omega (arith, young, range.tc_most, range.tj_most)) in
       let since = raised-one l.since (omega (arith, young, by.within, range.tc_most, range.tj_most)) in
       let more = counted t.request l.service t.age by.service in
@@ -150,95 +150,95 @@ module _ {D S : Type 0} (m : Meaning D S) (lawful : Lawful m) (card : Card) (ran
         within = omega (arith, age, since, same-age, same-since, by.within);
       }
 
-  fits-open : (s : S) (state : State) (request : Option S) → request ≡ Some s → (state ≡ State.Trying) ⊎ (state ≡ State.Waiting) → Fits state now-present request
-  fits-open s state request e told = subst (λ (o : Option S). Fits state now-present o) (sym e) told
+  fits-open : (s : S) (state : State) (request : Option S) → request ≡ Some s → (state ≡ State.Trying) ⊎ (state ≡ State.Waiting) → Fits state now_present request
+  fits-open s state request e told = subst (λ (o : Option S). Fits state now_present o) (sym e) told
 
-  done-so : (l : Live S) (s : Station) (was job : Job S) (source source' : D) → Ready-to-hear m lawful card range t s was source → LiveBy l t → l.age < card.tc + card.tj → is_out job ≡ false → DoneJob m lawful card range h (slots_of t.stay) st is (aged l) t.wait job → Told-so m lawful card range t now-present None here job source'
-  done-so l s was Free source source' r by young not-out done = absurd done
-  done-so l s was (Trying live window c) source source' r by young not-out done =
+  done_so : (l : Live S) (s : Station) (was job : Job S) (source source' : D) → Ready-to-hear m lawful card range t s was source → LiveBy l t → l.age < card.tc + card.tj → is_out job ≡ false → DoneJob m lawful card range h (slots_of t.stay) st is (aged l) t.wait job → Told-so m lawful card range t now_present None here job source'
+  done_so l s was Free source source' r by young not_out done = absurd done
+  done_so l s was (Trying live window c) source source' r by young not_out done =
       let k = r.holds in
       record {
         holds = record {
           place = is;
-          job = (older-so l live by young done.0, done.1);
-          out = k.out ∙ r.not-out ∙ sym not-out;
+          job = (older_so l live by young done.0, done.1);
+          out = k.out ∙ r.not_out ∙ sym not_out;
           permits = k.permits;
           requests = k.requests;
           most = k.most;
-          soon = omega (arith, counted t.request l.service t.age by.service, young-enough m card range l t by young);
+          soon = omega (arith, counted t.request l.service t.age by.service, young_enough m card range l t by young);
         };
         fits = fits-open l.service _ _ by.service (inl refl);
       }
-  done-so l s was (Waiting live) source source' r by young not-out done =
+  done_so l s was (Waiting live) source source' r by young not_out done =
       let k = r.holds in
       record {
         holds = record {
           place = is;
-          job = (older-so l live by young done.0, done.1);
-          out = k.out ∙ r.not-out;
+          job = (older_so l live by young done.0, done.1);
+          out = k.out ∙ r.not_out;
           permits = k.permits;
           requests = k.requests;
           most = k.most;
-          soon = omega (arith, counted t.request l.service t.age by.service, young-enough m card range l t by young);
+          soon = omega (arith, counted t.request l.service t.age by.service, young_enough m card range l t by young);
         };
         fits = fits-open l.service _ _ by.service (inr refl);
       }
 
   -- an open request through the slot: ended, or chosen for
-  through-so : (l : Live S) (s : Station) (was : Job S) (source source' : D) (p : Progress S) → Ready-to-hear m lawful card range t s was source → LiveBy l t → l.age < card.tc + card.tj → IfGoing (LastJob m card range (aged l) (h ∷ slots_of t.stay) t.wait) p → Told-so m lawful card range t now-present (end_in p) here (choose source (left p)) source'
-  through-so l s was source source' (Ended e) r by young last = ended_so m lawful card range t l e now-present s here was source source' r by young is refl
-  through-so l s was source source' (Going job) r by young last = done-so l s was (choose source job) source source' r by young (chosen-not-out source (aged l) t.wait job last) (chooses m lawful card range h (slots_of t.stay) st is source (aged l) t.wait job last)
+  through_so : (l : Live S) (s : Station) (was : Job S) (source source' : D) (p : Progress S) → Ready-to-hear m lawful card range t s was source → LiveBy l t → l.age < card.tc + card.tj → IfGoing (LastJob m card range (aged l) (h ∷ slots_of t.stay) t.wait) p → Told-so m lawful card range t now_present (end_in p) here (choose source (left p)) source'
+  through_so l s was source source' (Ended e) r by young last = ended_so m lawful card range t l e now_present s here was source source' r by young is refl
+  through_so l s was source source' (Going job) r by young last = done_so l s was (choose source job) source source' r by young (chosen_not_out source (aged l) t.wait job last) (chooses m lawful card range h (slots_of t.stay) st is source (aged l) t.wait job last)
 
-  stays-so : (s : Station) (job : Job S) (source source' : D) → Ready-to-hear m lawful card range t s job source → Told-so m lawful card range t now-present (end_in (through (λ v. m.verdict v h.content card.address) card job)) here (choose source (left (through (λ v. m.verdict v h.content card.address) card job))) source'
-  stays-so s Free source source' r = idle-so m lawful card range t now-present s here source source' r is (subst (λ (o : Option S). Fits State.Idle now-present o) (sym r.holds.job) refl)
-  stays-so s (Trying l window c) source source' r =
+  stays_so : (s : Station) (job : Job S) (source source' : D) → Ready-to-hear m lawful card range t s job source → Told-so m lawful card range t now_present (end_in (through (λ v. m.verdict v h.content card.address) card job)) here (choose source (left (through (λ v. m.verdict v h.content card.address) card job))) source'
+  stays_so s Free source source' r = idle-so m lawful card range t now_present s here source source' r is (subst (λ (o : Option S). Fits State.Idle now_present o) (sym r.holds.job) refl)
+  stays_so s (Trying l window c) source source' r =
       let j = r.holds.job in
-      let young = try-young m card range l t window c j.1 in
-      through-so l s (Trying l window c) source source' (through (λ v. m.verdict v h.content card.address) card (Trying l window c)) r j.0 young
-      (try-through m card range h (slots_of t.stay) t.wait (λ v. m.verdict v h.content card.address) l window c r.not-out (omega (arith, young, j.0.within, range.tc_most, range.tj_most)) j.1)
-  stays-so s (Waiting l) source source' r =
+      let young = try_young m card range l t window c j.1 in
+      through_so l s (Trying l window c) source source' (through (λ v. m.verdict v h.content card.address) card (Trying l window c)) r j.0 young
+      (try_through m card range h (slots_of t.stay) t.wait (λ v. m.verdict v h.content card.address) l window c r.not_out (omega (arith, young, j.0.within, range.tc_most, range.tj_most)) j.1)
+  stays_so s (Waiting l) source source' r =
       let j = r.holds.job in
-      through-so l s (Waiting l) source source' (through (λ v. m.verdict v h.content card.address) card (Waiting l)) r j.0 (wait-young m card range l j.1)
+      through_so l s (Waiting l) source source' (through (λ v. m.verdict v h.content card.address) card (Waiting l)) r j.0 (wait-young m card range l j.1)
       (wait-through m card range h (slots_of t.stay) t.wait (λ v. m.verdict v h.content card.address) l j.1)
 
 module _ {D S : Type 0} (m : Meaning D S) (lawful : Lawful m) (card : Card) (range : Ranged card) (start : ℕ) (past : List (Event S)) where
-  abbrev heard-tally : Tally S
-  heard-tally = tally m card range past
+  abbrev heard_tally : Tally S
+  heard_tally = tally m card range past
 
   -- the stay after the slot, by whether the code keeps the set active and whether a move orders it away
   abbrev after-slot : Heard → Bool → Bool → Presence
-  after-slot h stays orders = cond stays (cond orders away (present (h ∷ slots_of heard-tally.stay))) away
+  after-slot h stays orders = cond stays (cond orders away (present (h ∷ slots_of heard_tally.stay))) away
 
-  told-so : (h : Heard) (s : Station) (ch : ℕ) (job : Job S) (source : D) (st : Option Stay) (stays orders : Bool) → Ready-to-hear m lawful card range heard-tally s job source → PlaceIs card st (after-slot h stays orders) → Told-so m lawful card range heard-tally (after-slot h stays orders) (end_in (progressed m card st job h.content)) (record { channel = ch; stay = st }) (job_in m card source st (progressed m card st job h.content) h.content) (source_in m card source st (progressed m card st job h.content) h.content)
-  told-so h s ch job source None true true r place = lost-so m lawful card range heard-tally s (record { channel = ch; stay = None }) job source r refl tt refl
+  told-so : (h : Heard) (s : Station) (ch : ℕ) (job : Job S) (source : D) (st : Option Stay) (stays orders : Bool) → Ready-to-hear m lawful card range heard_tally s job source → PlaceIs card st (after-slot h stays orders) → Told-so m lawful card range heard_tally (after-slot h stays orders) (end_in (progressed m card st job h.content)) (record { channel = ch; stay = st }) (job_in m card source st (progressed m card st job h.content) h.content) (source_in m card source st (progressed m card st job h.content) h.content)
+  told-so h s ch job source None true true r place = lost-so m lawful card range heard_tally s (record { channel = ch; stay = None }) job source r refl tt refl
   told-so h s ch job source None true false r place = absurd place
-  told-so h s ch job source None false orders r place = lost-so m lawful card range heard-tally s (record { channel = ch; stay = None }) job source r refl tt refl
+  told-so h s ch job source None false orders r place = lost-so m lawful card range heard_tally s (record { channel = ch; stay = None }) job source r refl tt refl
   told-so h s ch job source (Some st) true true r place = absurd place
-  told-so h s ch job source (Some st) true false r place = stays-so m lawful card range heard-tally h st place ch s job source _ r
+  told-so h s ch job source (Some st) true false r place = stays_so m lawful card range heard_tally h st place ch s job source _ r
   told-so h s ch job source (Some st) false orders r place = absurd place
 
-  module _ (c : Condition D S) (k : Holds m card range heard-tally c) (on : c.station.channel ≡ channel_in m.accepts card start past) where
-    heard-so : (h : Heard) → is_out c.job ≡ false → Next m card range start (slot h (Ok (told_by m card c h))) past (heard_by m card c h)
-    heard-so h not-out =
-        let p = heard-tally.stay in
+  module _ (c : Condition D S) (k : Holds m card range heard_tally c) (on : c.station.channel ≡ channel_in m.accepts card start past) where
+    heard_so : (h : Heard) → is_out c.job ≡ false → Next m card range start (slot h (Ok (told_by m card c h))) past (heard_by m card c h)
+    heard_so h not_out =
+        let p = heard_tally.stay in
         let step = follows_as m.accepts card range.ts_least c.station p h k.place in
         let stays = holds m.accepts card.ts p h.code in
         let orders = is_some (moved h.content card.address) in
-        let told = told-so h c.station (followed m.accepts card c.station h).channel c.job c.source (followed m.accepts card c.station h).stay stays orders (record { holds = k; not-out = not-out }) step.place in
+        let told = told-so h c.station (followed m.accepts card c.station h).channel c.job c.source (followed m.accepts card c.station h).stay stays orders (record { holds = k; not_out = not_out }) step.place in
         record {
           holds = told.holds;
           channel = step.tuned_to ∙ ap (λ ch. cond stays (unwrap_or (moved h.content card.address) ch) ch) on;
           lawful = λ e. absurd (clash e);
-          true-answer = told.fits;
+          true_answer = told.fits;
         }
 
-    slot-refused : (h : Heard) (r : Refusal) → Next m card range start (slot h (Err r)) past c
-    slot-refused h r = record { holds = k; channel = on; lawful = λ e. absurd (clash e); true-answer = tt }
+    slot_refused : (h : Heard) (r : Refusal) → Next m card range start (slot h (Err r)) past c
+    slot_refused h r = record { holds = k; channel = on; lawful = λ e. absurd (clash e); true_answer = tt }
 
     slot-by : (h : Heard) (out : Bool) (judged : Result (Unit {0}) Refusal) → is_out c.job ≡ out → Next m card range start (slot h (if_answered (cond out (Err Refusal.PermitOut) judged) (told_by m card c h))) past (if_granted (cond out (Err Refusal.PermitOut) judged) (heard_by m card c h) c)
-    slot-by h true judged e = slot-refused h Refusal.PermitOut
-    slot-by h false (Ok x) e = heard-so h e
-    slot-by h false (Err r) e = slot-refused h r
+    slot-by h true judged e = slot_refused h Refusal.PermitOut
+    slot-by h false (Ok x) e = heard_so h e
+    slot-by h false (Err r) e = slot_refused h r
 
     pub slot_next : (h : Heard) → Next m card range start (slot h (slot_answer m card c h)) past (slotted m card c h)
     slot_next h = slot-by h (is_out c.job) (heard_in_range h) refl

@@ -32,12 +32,12 @@ wait_there card (Some st) away marker is covers = absurd is
 wait_there card (Some st) (present hs) marker is covers = ap (λ (n : Noted). n.wait) is.notes
 
 module _ {D S : Type 0} (m : Meaning D S) (lawful : Lawful m) (card : Card) (range : Ranged card) (start : ℕ) (past : List (Event S)) where
-  abbrev pub now-tally : Tally S
-  now-tally = tally m card range past
+  abbrev pub now_tally : Tally S
+  now_tally = tally m card range past
 
   -- the set in a condition agrees with the history up to now
   pub record Agrees (s : Station) (job : Job S) (source : D) : Type 0 where
-    pub holds : Holds m card range now-tally (record { station = s; job = job; source = source })
+    pub holds : Holds m card range now_tally (record { station = s; job = job; source = source })
     pub channel : s.channel ≡ channel_in m.accepts card start past
 
   abbrev pub After : Event S → Station → Job S → D → Type 0
@@ -45,66 +45,66 @@ module _ {D S : Type 0} (m : Meaning D S) (lawful : Lawful m) (card : Card) (ran
 
   -- a refused call, and a take without a permit, keep everything
   module _ (s : Station) (job : Job S) (source : D) (a : Agrees s job source) where
-    pub tune-refused : (ch : ℕ) (r : Refusal) → After (tune ch (Err r)) s job source
-    tune-refused ch r = record { holds = a.holds; channel = a.channel; lawful = λ e. absurd (clash e); true-answer = tt }
+    pub tune_refused : (ch : ℕ) (r : Refusal) → After (tune ch (Err r)) s job source
+    tune_refused ch r = record { holds = a.holds; channel = a.channel; lawful = λ e. absurd (clash e); true_answer = tt }
 
-    pub begin-refused : (v : S) (r : Refusal) → After (begin v (Err r)) s job source
-    begin-refused v r = record { holds = a.holds; channel = a.channel; lawful = λ e. absurd (clash e); true-answer = tt }
+    pub begin_refused : (v : S) (r : Refusal) → After (begin v (Err r)) s job source
+    begin_refused v r = record { holds = a.holds; channel = a.channel; lawful = λ e. absurd (clash e); true_answer = tt }
 
-    pub take-empty : After (take None) s job source
-    take-empty = record { holds = a.holds; channel = a.channel; lawful = λ e. absurd (clash e); true-answer = tt }
+    pub take_empty : After (take None) s job source
+    take_empty = record { holds = a.holds; channel = a.channel; lawful = λ e. absurd (clash e); true_answer = tt }
 
-    pub sent-refused : (p : Option ℕ) (r : Refusal) → After (sent p (Err r)) s job source
-    sent-refused p r = record { holds = a.holds; channel = a.channel; lawful = λ e. absurd (clash e); true-answer = tt }
+    pub sent_refused : (p : Option ℕ) (r : Refusal) → After (sent p (Err r)) s job source
+    sent_refused p r = record { holds = a.holds; channel = a.channel; lawful = λ e. absurd (clash e); true_answer = tt }
 
-    pub held-refused : (p : Option ℕ) (r : Refusal) → After (held p (Err r)) s job source
-    held-refused p r = record { holds = a.holds; channel = a.channel; lawful = λ e. absurd (clash e); true-answer = tt }
+    pub held_refused : (p : Option ℕ) (r : Refusal) → After (held p (Err r)) s job source
+    held_refused p r = record { holds = a.holds; channel = a.channel; lawful = λ e. absurd (clash e); true_answer = tt }
 
-    pub cancel-refused : (r : Refusal) → After (cancel (Err r)) s job source
-    cancel-refused r = record { holds = a.holds; channel = a.channel; lawful = λ e. absurd (clash e); true-answer = tt }
+    pub cancel_refused : (r : Refusal) → After (cancel (Err r)) s job source
+    cancel_refused r = record { holds = a.holds; channel = a.channel; lawful = λ e. absurd (clash e); true_answer = tt }
 
   -- an end that a host's call answers leaves no request open
-  ended-once : (l : Live S) (b n : ℕ) → LiveBy l now-tally → b ≡ n + cond (is_some now-tally.request) 1 0 → b ≡ (n + 1) + 0
-  ended-once l b n is e = omega (arith, e, one-open m card range now-tally l.service is.service)
+  ended_once : (l : Live S) (b n : ℕ) → LiveBy l now_tally → b ≡ n + cond (is_some now_tally.request) 1 0 → b ≡ (n + 1) + 0
+  ended_once l b n is e = omega (arith, e, one-open m card range now_tally l.service is.service)
 
   pub tune-granted : (ch : ℕ) (s : Station) (job : Job S) (source : D) → is_out job ≡ false → Agrees s job source → After (tune ch (Ok (end_in (lost job)))) (seeking_on ch) Free source
-  tune-granted ch s Free source not-out a =
+  tune-granted ch s Free source not_out a =
       let k = a.holds in
-      record { holds = record { place = tt; job = k.job; out = k.out; permits = k.permits; requests = k.requests; most = k.most; soon = k.soon }; channel = refl; lawful = λ e. absurd (clash e); true-answer = tt }
-  tune-granted ch s (Trying l window c) source not-out a =
+      record { holds = record { place = tt; job = k.job; out = k.out; permits = k.permits; requests = k.requests; most = k.most; soon = k.soon }; channel = refl; lawful = λ e. absurd (clash e); true_answer = tt }
+  tune-granted ch s (Trying l window c) source not_out a =
       let k = a.holds in
       record {
-        holds = record { place = tt; job = refl; out = k.out ∙ not-out; permits = k.permits; requests = ended-once l _ _ k.job.0 k.requests; most = k.most; soon = k.soon };
+        holds = record { place = tt; job = refl; out = k.out ∙ not_out; permits = k.permits; requests = ended_once l _ _ k.job.0 k.requests; most = k.most; soon = k.soon };
         channel = refl;
         lawful = λ e. absurd (clash e);
-        true-answer = tt;
+        true_answer = tt;
       }
-  tune-granted ch s (Waiting l) source not-out a =
+  tune-granted ch s (Waiting l) source not_out a =
       let k = a.holds in
       record {
-        holds = record { place = tt; job = refl; out = k.out; permits = k.permits; requests = ended-once l _ _ k.job.0 k.requests; most = k.most; soon = k.soon };
+        holds = record { place = tt; job = refl; out = k.out; permits = k.permits; requests = ended_once l _ _ k.job.0 k.requests; most = k.most; soon = k.soon };
         channel = refl;
         lawful = λ e. absurd (clash e);
-        true-answer = tt;
+        true_answer = tt;
       }
 
   pub cancel-granted : (s : Station) (job : Job S) (source : D) → is_out job ≡ false → Agrees s job source → After (cancel (withdrawn job)) s Free source
-  cancel-granted s Free source not-out a = cancel-refused s Free source a Refusal.NoRequest
-  cancel-granted s (Trying l window c) source not-out a =
+  cancel-granted s Free source not_out a = cancel_refused s Free source a Refusal.NoRequest
+  cancel-granted s (Trying l window c) source not_out a =
       let k = a.holds in
       record {
-        holds = record { place = k.place; job = refl; out = k.out ∙ not-out; permits = k.permits; requests = ended-once l _ _ k.job.0 k.requests; most = k.most; soon = k.soon };
+        holds = record { place = k.place; job = refl; out = k.out ∙ not_out; permits = k.permits; requests = ended_once l _ _ k.job.0 k.requests; most = k.most; soon = k.soon };
         channel = a.channel;
         lawful = λ e. absurd (clash e);
-        true-answer = tt;
+        true_answer = tt;
       }
-  cancel-granted s (Waiting l) source not-out a =
+  cancel-granted s (Waiting l) source not_out a =
       let k = a.holds in
       record {
-        holds = record { place = k.place; job = refl; out = k.out; permits = k.permits; requests = ended-once l _ _ k.job.0 k.requests; most = k.most; soon = k.soon };
+        holds = record { place = k.place; job = refl; out = k.out; permits = k.permits; requests = ended_once l _ _ k.job.0 k.requests; most = k.most; soon = k.soon };
         channel = a.channel;
         lawful = λ e. absurd (clash e);
-        true-answer = tt;
+        true_answer = tt;
       }
 
   pub begin-granted : (v : S) (s : Station) (source : D) → Agrees s Free source → After (begin v (Ok tt)) s (Trying (opened v) 0 Unchosen) source
@@ -119,19 +119,19 @@ module _ {D S : Type 0} (m : Meaning D S) (lawful : Lawful m) (card : Card) (ran
           );
           out = k.out;
           permits = k.permits;
-          requests = omega (arith, k.requests, none_open m card range now-tally k.job);
+          requests = omega (arith, k.requests, none_open m card range now_tally k.job);
           most = omega arith;
           soon = omega arith;
         };
         channel = a.channel;
         lawful = λ e. absurd (clash e);
-        true-answer = tt;
+        true_answer = tt;
       }
 
   pub take-ready : (s : Station) (l : Live S) (window : ℕ) (source : D) → Agrees s (Trying l window Ready) source → After (take (Some card.address)) s (Trying l window Out) source
   take-ready s l window source a =
       let k = a.holds in
-      let none : ◌≡◌ {A = ℕ} (cond now-tally.out 1 0) 0 = ap {B = ℕ} (λ b. cond b 1 0) k.out in
+      let none : ◌≡◌ {A = ℕ} (cond now_tally.out 1 0) 0 = ap {B = ℕ} (λ b. cond b 1 0) k.out in
       let is = k.job.1 in
       record {
         holds = record {
@@ -145,12 +145,12 @@ module _ {D S : Type 0} (m : Meaning D S) (lawful : Lawful m) (card : Card) (ran
         };
         channel = a.channel;
         lawful = λ e. absurd (clash e);
-        true-answer = tt;
+        true_answer = tt;
       }
 
   -- a slot within reach of the request kept is within reach of the history's
-  reached-so : (l : Live S) → LiveBy l now-tally → ReachedBy m card range l (slots_of now-tally.stay) 1 → Reached card.address card.nw (m.invites l.service) (m.emergency l.service) (slots_of now-tally.stay) now-tally.age now-tally.sends now-tally.since 1
-  reached-so l is r =
+  reached_so : (l : Live S) → LiveBy l now_tally → ReachedBy m card range l (slots_of now_tally.stay) 1 → Reached card.address card.nw (m.invites l.service) (m.emergency l.service) (slots_of now_tally.stay) now_tally.age now_tally.sends now_tally.since 1
+  reached_so l is r =
       record {
         marker = r.marker;
         division = r.division;
@@ -163,8 +163,8 @@ module _ {D S : Type 0} (m : Meaning D S) (lawful : Lawful m) (card : Card) (ran
       }
 
   -- a frame that invites an ordinary service was not marked under ALHE
-  not-alhe : (l : Live S) → LiveBy l now-tally → ReachedBy m card range l (slots_of now-tally.stay) 1 → (s : S) → now-tally.request ≡ Some s → m.emergency s ≡ false → NotOnlyAlhe card.nw (slots_of now-tally.stay)
-  not-alhe l is r s e ordinary =
+  not_alhe : (l : Live S) → LiveBy l now_tally → ReachedBy m card range l (slots_of now_tally.stay) 1 → (s : S) → now_tally.request ≡ Some s → m.emergency s ≡ false → NotOnlyAlhe card.nw (slots_of now_tally.stay)
+  not_alhe l is r s e ordinary =
       let same : s ≡ l.service = cc is.service in
       record {
         marker = r.marker;
@@ -179,8 +179,8 @@ module _ {D S : Type 0} (m : Meaning D S) (lawful : Lawful m) (card : Card) (ran
       let is = k.job.1 in
       let reach = is.chose.1 in
       record {
-        in_open_slot = record { service = l.service; requested = live.service; reached = reached-so l live reach; free = is.chose.2 };
-        ordinary = not-alhe l live reach;
+        in_open_slot = record { service = l.service; requested = live.service; reached = reached_so l live reach; free = is.chose.2 };
+        ordinary = not_alhe l live reach;
         spaced = λ some. omega (arith, is.spaced (omega (arith, some, live.sends)), is.chose.0, live.since);
       }
 
@@ -190,13 +190,13 @@ module _ {D S : Type 0} (m : Meaning D S) (lawful : Lawful m) (card : Card) (ran
       let live = k.job.0 in
       let is = k.job.1 in
       let reach = is.chose.1 in
-      let noted : wait_now s.stay ≡ (noted_in card.nw (slots_of now-tally.stay)).wait = wait_there card s.stay now-tally.stay reach.marker k.place reach.covers in
-      let small = wait-small card.nw range.nw_most (slots_of now-tally.stay) in
+      let noted : wait_now s.stay ≡ (noted_in card.nw (slots_of now_tally.stay)).wait = wait_there card s.stay now_tally.stay reach.marker k.place reach.covers in
+      let small = wait-small card.nw range.nw_most (slots_of now_tally.stay) in
       let room = is.more is.chose.0 in
       let one : raised l.sends ≡ l.sends + 1 = raised-one _ (omega (arith, room, range.nr_most)) in
       let first : raised (wait_now s.stay) ≡ wait_now s.stay + 1 = raised-one _ (omega (arith, small, noted)) in
       let second : raised (raised (wait_now s.stay)) ≡ raised (wait_now s.stay) + 1 = raised-one _ (omega (arith, small, noted, first)) in
-      let out : ◌≡◌ {A = ℕ} (cond now-tally.out 1 0) 1 = ap {B = ℕ} (λ b. cond b 1 0) k.out in
+      let out : ◌≡◌ {A = ℕ} (cond now_tally.out 1 0) 1 = ap {B = ℕ} (λ b. cond b 1 0) k.out in
       record {
         holds = record {
           place = k.place;
@@ -212,14 +212,14 @@ module _ {D S : Type 0} (m : Meaning D S) (lawful : Lawful m) (card : Card) (ran
         };
         channel = a.channel;
         lawful = λ e. transmitted s l window source a;
-        true-answer = tt;
+        true_answer = tt;
       }
 
   pub held-granted : (p : Option ℕ) (s : Station) (l : Live S) (window : ℕ) (source : D) → Agrees s (Trying l window Out) source → After (held p (Ok tt)) s (Trying l window Unchosen) source
   held-granted p s l window source a =
       let k = a.holds in
       let is = k.job.1 in
-      let out : ◌≡◌ {A = ℕ} (cond now-tally.out 1 0) 1 = ap {B = ℕ} (λ b. cond b 1 0) k.out in
+      let out : ◌≡◌ {A = ℕ} (cond now_tally.out 1 0) 1 = ap {B = ℕ} (λ b. cond b 1 0) k.out in
       record {
         holds = record {
           place = k.place;
@@ -232,5 +232,5 @@ module _ {D S : Type 0} (m : Meaning D S) (lawful : Lawful m) (card : Card) (ran
         };
         channel = a.channel;
         lawful = λ e. absurd (clash e);
-        true-answer = tt;
+        true_answer = tt;
       }

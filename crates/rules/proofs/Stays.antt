@@ -46,21 +46,21 @@ module _ (accepts : ℕ → Bool) (card : Card) (some : 1 ≤ card.ts) where
   by_code st hs is false = tt
 
   -- the TS-th slot in a row without a code is where no patience is left
-  by-silence : (st : Stay) (hs : List Heard) → StayIs card st hs → (b c : Bool) → leb st.patience 1 ≡ b → leb card.ts (silent hs + 1) ≡ c → KeptAs card (cond b None (Some (patient st (st.patience - 1)))) (not c) hs (silent hs + 1)
-  by-silence st hs is true true p q = tt
-  by-silence st hs is true false p q = absurd (omega (arith, is.sum, is.left, leb-true _ _ p, leb-false _ _ q))
-  by-silence st hs is false true p q = absurd (omega (arith, is.sum, leb-false _ _ p, leb-true _ _ q))
-  by-silence st hs is false false p q = record { sum = omega (arith, is.sum, leb-false _ _ p); left = omega (arith, leb-false _ _ p); notes = is.notes; frames = is.frames }
+  by_silence : (st : Stay) (hs : List Heard) → StayIs card st hs → (b c : Bool) → leb st.patience 1 ≡ b → leb card.ts (silent hs + 1) ≡ c → KeptAs card (cond b None (Some (patient st (st.patience - 1)))) (not c) hs (silent hs + 1)
+  by_silence st hs is true true p q = tt
+  by_silence st hs is true false p q = absurd (omega (arith, is.sum, is.left, leb-true _ _ p, leb-false _ _ q))
+  by_silence st hs is false true p q = absurd (omega (arith, is.sum, leb-false _ _ p, leb-true _ _ q))
+  by_silence st hs is false false p q = record { sum = omega (arith, is.sum, leb-false _ _ p); left = omega (arith, leb-false _ _ p); notes = is.notes; frames = is.frames }
 
-  keeps-as : (st : Option Stay) (p : Presence) (code : Option ℕ) → PlaceIs card st p → KeptAs card (kept accepts card st code) (holds accepts card.ts p code) (slots_of p) (cond (is_some code) 0 (silent (slots_of p) + 1))
-  keeps-as None away None a = tt
-  keeps-as None away (Some code) a = by-first-code (accepts code)
-  keeps-as None (present hs) None a = absurd a
-  keeps-as None (present hs) (Some code) a = absurd a
-  keeps-as (Some st) away None a = absurd a
-  keeps-as (Some st) away (Some code) a = absurd a
-  keeps-as (Some st) (present hs) None a = by-silence st hs a _ _ refl refl
-  keeps-as (Some st) (present hs) (Some code) a = by_code st hs a (accepts code)
+  keeps_as : (st : Option Stay) (p : Presence) (code : Option ℕ) → PlaceIs card st p → KeptAs card (kept accepts card st code) (holds accepts card.ts p code) (slots_of p) (cond (is_some code) 0 (silent (slots_of p) + 1))
+  keeps_as None away None a = tt
+  keeps_as None away (Some code) a = by-first-code (accepts code)
+  keeps_as None (present hs) None a = absurd a
+  keeps_as None (present hs) (Some code) a = absurd a
+  keeps_as (Some st) away None a = absurd a
+  keeps_as (Some st) away (Some code) a = absurd a
+  keeps_as (Some st) (present hs) None a = by_silence st hs a _ _ refl refl
+  keeps_as (Some st) (present hs) (Some code) a = by_code st hs a (accepts code)
 
 -- a stay that goes on with a slot is that of the slots with this one
 heeds : (card : Card) (st : Stay) (h : Heard) (hs : List Heard) → StillIs card st hs (silent (h ∷ hs)) → StayIs card (heeding st h.content) (h ∷ hs)
@@ -82,4 +82,4 @@ acts_as card (Some st) true (Some new) h hs ch a = record { place = tt; tuned_to
 
 pub follows_as : (accepts : ℕ → Bool) (card : Card) → 1 ≤ card.ts → (s : Station) (p : Presence) (h : Heard) → PlaceIs card s.stay p → Stepped card (followed accepts card s h) (hear accepts card h p) (cond (holds accepts card.ts p h.code) (unwrap_or (moved h.content card.address) s.channel) s.channel)
 follows_as accepts card some s p h a =
-    acts_as card _ _ (moved h.content card.address) h (slots_of p) s.channel (keeps-as accepts card some s.stay p h.code a)
+    acts_as card _ _ (moved h.content card.address) h (slots_of p) s.channel (keeps_as accepts card some s.stay p h.code a)

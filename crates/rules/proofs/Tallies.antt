@@ -77,18 +77,18 @@ module _ {D S : Type 0} (m : Meaning D S) (card : Card) (range : Ranged card) wh
     pub holds : Holds (tally (e ∷ past)) c
     pub channel : c.station.channel ≡ channel_in m.accepts card start (e ∷ past)
     pub lawful : NewestLawful m card (e ∷ past)
-    pub true-answer : NewestTrue m card (e ∷ past)
+    pub true_answer : NewestTrue m card (e ∷ past)
 
   -- a moment of a history
   pub moment : (h : List (Event S)) (c : Condition D S) → Holds (tally h) c → NewestLawful m card h → NewestTrue m card h → Moment m card h
   moment h c k lawful answer = record { transmission = lawful; answer = answer; permits = k.permits; requests = k.requests; most = k.most; soon = k.soon }
 
   -- an open request is younger than TC + TJ, so that it may age once more
-  pub young-enough : (l : Live S) (t : Tally S) → LiveBy l t → l.age < card.tc + card.tj → t.age + 1 ≤ card.tc + card.tj
-  young-enough l t is young = omega (arith, is.age)
+  pub young_enough : (l : Live S) (t : Tally S) → LiveBy l t → l.age < card.tc + card.tj → t.age + 1 ≤ card.tc + card.tj
+  young_enough l t is young = omega (arith, is.age)
 
-  pub try-young : (l : Live S) (t : Tally S) (window : ℕ) (c : _) → TryIs m card range l window c (slots_of t.stay) t.wait → l.age < card.tc + card.tj
-  try-young l t window c is = omega (arith, is.young)
+  pub try_young : (l : Live S) (t : Tally S) (window : ℕ) (c : _) → TryIs m card range l window c (slots_of t.stay) t.wait → l.age < card.tc + card.tj
+  try_young l t window c is = omega (arith, is.young)
 
   pub wait-young : (l : Live S) → WaitIs m card range l → l.age < card.tc + card.tj
   wait-young l is = omega (arith, is.old, is.soon)

@@ -121,14 +121,14 @@ module _ {D S : Type 0} (m : Meaning D S) (card : Card) (range : Ranged card) wh
       }
 
   passes : (l : Live S) (window : ℕ) (h : Heard) (hs : List Heard) (c : Choice) → l.age < 4294967295 → l.since < 4294967295 → out_in c ≡ false → ChoiceIs l window hs c → MidChoice (aged l) window (h ∷ hs) (passed c)
-  passes l window h hs Unchosen age since not-out is = tt
-  passes l window h hs (Ahead n) age since not-out is = (is.0, omega (arith, is.1), nearer l h hs n age since is.1 is.2)
-  passes l window h hs Ready age since not-out is = tt
-  passes l window h hs Out age since not-out is = absurd (clash (sym not-out))
+  passes l window h hs Unchosen age since not_out is = tt
+  passes l window h hs (Ahead n) age since not_out is = (is.0, omega (arith, is.1), nearer l h hs n age since is.1 is.2)
+  passes l window h hs Ready age since not_out is = tt
+  passes l window h hs Out age since not_out is = absurd (clash (sym not_out))
 
   -- a request in try that grows a slot older
   ages : (l : Live S) (window : ℕ) (c : Choice) (h : Heard) (hs : List Heard) (w : ℕ) → out_in c ≡ false → l.since < 4294967295 → TryIs l window c hs w → MidTry (aged l) window (passed c) (h ∷ hs) w
-  ages l window c h hs w not-out since is =
+  ages l window c h hs w not_out since is =
       let age : l.age < 4294967295 = omega (arith, is.young, range.tc_most) in
       let e = raised-one _ age in
       let f = raised-one _ since in
@@ -140,7 +140,7 @@ module _ {D S : Type 0} (m : Meaning D S) (card : Card) (range : Ranged card) wh
         spaced = λ some. omega (arith, is.spaced some);
         older = λ some. omega (arith, is.older some);
         more = is.more;
-        chose = passes l window h hs c age since not-out is.chose;
+        chose = passes l window h hs c age since not_out is.chose;
       }
 
   -- the waiting that a try goes over to
@@ -148,15 +148,15 @@ module _ {D S : Type 0} (m : Meaning D S) (card : Card) (range : Ranged card) wh
   waits l few young = record { few = few; old = omega arith }
 
   module _ (h : Heard) (hs : List Heard) (w : ℕ) where
-    judges-try : (v : Verdict) (l : Live S) (window : ℕ) (c : Choice) → MidTry l window c (h ∷ hs) w → IfGoing (MidJob l (h ∷ hs) w) (judged v l (Trying l window c))
-    judges-try Verdict.Nothing l window c is = (refl, is)
-    judges-try Verdict.Interim l window c is = (refl, waits l is.few is.young)
-    judges-try (Verdict.End e) l window c is = tt
+    judges_try : (v : Verdict) (l : Live S) (window : ℕ) (c : Choice) → MidTry l window c (h ∷ hs) w → IfGoing (MidJob l (h ∷ hs) w) (judged v l (Trying l window c))
+    judges_try Verdict.Nothing l window c is = (refl, is)
+    judges_try Verdict.Interim l window c is = (refl, waits l is.few is.young)
+    judges_try (Verdict.End e) l window c is = tt
 
-    judges-wait : (v : Verdict) (l : Live S) → MidWait l → IfGoing (MidJob l (h ∷ hs) w) (judged v l (Waiting l))
-    judges-wait Verdict.Nothing l is = (refl, is)
-    judges-wait Verdict.Interim l is = (refl, is)
-    judges-wait (Verdict.End e) l is = tt
+    judges_wait : (v : Verdict) (l : Live S) → MidWait l → IfGoing (MidJob l (h ∷ hs) w) (judged v l (Waiting l))
+    judges_wait Verdict.Nothing l is = (refl, is)
+    judges_wait Verdict.Interim l is = (refl, is)
+    judges_wait (Verdict.End e) l is = tt
 
     -- the window is a slot shorter, or over as it was
     shortens : (l : Live S) (window : ℕ) (c : Choice) → MidChoice l window (h ∷ hs) c → MidChoice l (window - 1) (h ∷ hs) c
@@ -173,24 +173,24 @@ module _ {D S : Type 0} (m : Meaning D S) (card : Card) (range : Ranged card) wh
       record { few = is.few; young = leb-false _ _ e; some = is.some; grown = is.grown; spaced = λ some. omega (arith, is.spaced some); older = is.older; more = more; chose = shortens live window c is.chose },
     )
 
-    tries-on : (l live : Live S) (window : ℕ) (c : Choice) → live ≡ l → MidTry live window c (h ∷ hs) w → (over full : Bool) → eqb (window - 1) 0 ≡ over → leb card.nr live.sends ≡ full → IfGoing (LateJob l (h ∷ hs) w) (cond (over && full) (Going (Waiting live)) (timed card.tc live (window - 1) c))
-    tries-on l live window c same is true true e f = (same, waits live is.few is.young)
-    tries-on l live window c same is true false e f = times l live window c same is (λ over. leb-false _ _ f) _ _ refl
-    tries-on l live window c same is false full e f = times l live window c same is (λ over. absurd (eqb-false _ _ e over)) _ _ refl
+    tries_on : (l live : Live S) (window : ℕ) (c : Choice) → live ≡ l → MidTry live window c (h ∷ hs) w → (over full : Bool) → eqb (window - 1) 0 ≡ over → leb card.nr live.sends ≡ full → IfGoing (LateJob l (h ∷ hs) w) (cond (over && full) (Going (Waiting live)) (timed card.tc live (window - 1) c))
+    tries_on l live window c same is true true e f = (same, waits live is.few is.young)
+    tries_on l live window c same is true false e f = times l live window c same is (λ over. leb-false _ _ f) _ _ refl
+    tries_on l live window c same is false full e f = times l live window c same is (λ over. absurd (eqb-false _ _ e over)) _ _ refl
 
     tries : (l : Live S) (job : Job S) → MidJob l (h ∷ hs) w job → IfGoing (LateJob l (h ∷ hs) w) (tried card job)
     tries l Free is = is
-    tries l (Trying live window c) is = tries-on l live window c is.0 is.1 _ _ refl refl
+    tries l (Trying live window c) is = tries_on l live window c is.0 is.1 _ _ refl refl
     tries l (Waiting live) is = is
 
     ends-wait : (l live : Live S) → live ≡ l → MidWait live → (over : Bool) → leb card.tj live.since ≡ over → IfGoing (LastJob l (h ∷ hs) w) (cond over (Ended (end_of EndWord.Unknown live)) (Going (Waiting live)))
     ends-wait l live same is true e = tt
     ends-wait l live same is false e = (same, record { few = is.few; old = is.old; soon = leb-false _ _ e })
 
-    waits-on : (l : Live S) (job : Job S) → LateJob l (h ∷ hs) w job → IfGoing (LastJob l (h ∷ hs) w) (waited card job)
-    waits-on l Free is = is
-    waits-on l (Trying live window c) is = is
-    waits-on l (Waiting live) is = ends-wait l live is.0 is.1 _ refl
+    waits_on : (l : Live S) (job : Job S) → LateJob l (h ∷ hs) w job → IfGoing (LastJob l (h ∷ hs) w) (waited card job)
+    waits_on l Free is = is
+    waits_on l (Trying live window c) is = is
+    waits_on l (Waiting live) is = ends-wait l live is.0 is.1 _ refl
 
     -- an open request through a slot: where it goes on, it is a slot older
     goes_through : (verdict : S → Verdict) (l : Live S) (job : Job S) → IfGoing (MidJob l (h ∷ hs) w) (answered verdict (lapsed job)) → IfGoing (LastJob l (h ∷ hs) w) (through verdict card job)
@@ -198,13 +198,13 @@ module _ {D S : Type 0} (m : Meaning D S) (card : Card) (range : Ranged card) wh
         let first = answered verdict (lapsed job) in
         going_on (LateJob l (h ∷ hs) w) (LastJob l (h ∷ hs) w) (onward first (tried card)) (waited card)
         (going_on (MidJob l (h ∷ hs) w) (LateJob l (h ∷ hs) w) first (tried card) is (tries l))
-        (waits-on l)
+        (waits_on l)
 
-    pub try-through : (verdict : S → Verdict) (l : Live S) (window : ℕ) (c : Choice) → out_in c ≡ false → l.since < 4294967295 → TryIs l window c hs w → IfGoing (LastJob (aged l) (h ∷ hs) w) (through verdict card (Trying l window c))
-    try-through verdict l window c not-out since is = goes_through verdict (aged l) (Trying l window c) (judges-try (verdict l.service) (aged l) window (passed c) (ages l window c h hs w not-out since is))
+    pub try_through : (verdict : S → Verdict) (l : Live S) (window : ℕ) (c : Choice) → out_in c ≡ false → l.since < 4294967295 → TryIs l window c hs w → IfGoing (LastJob (aged l) (h ∷ hs) w) (through verdict card (Trying l window c))
+    try_through verdict l window c not_out since is = goes_through verdict (aged l) (Trying l window c) (judges_try (verdict l.service) (aged l) window (passed c) (ages l window c h hs w not_out since is))
 
     pub wait-through : (verdict : S → Verdict) (l : Live S) → WaitIs l → IfGoing (LastJob (aged l) (h ∷ hs) w) (through verdict card (Waiting l))
     wait-through verdict l is =
         let e = raised-one l.age (omega (arith, is.old, is.soon, range.tc_most, range.tj_most)) in
         let f = raised-one l.since (omega (arith, is.soon, range.tj_most)) in
-        goes_through verdict (aged l) (Waiting l) (judges-wait (verdict l.service) (aged l) (record { few = is.few; old = omega (arith, is.old) }))
+        goes_through verdict (aged l) (Waiting l) (judges_wait (verdict l.service) (aged l) (record { few = is.few; old = omega (arith, is.old) }))

@@ -11,7 +11,7 @@ use Rattle.script.specs.Inside.{Inside, up_to}
 use Rattle.script.specs.Items.{Item, opening, closing, space, word, end, before, items, joined}
 use Rattle.script.specs.Reading.{Out, got, stuck, Reads}
 use Rattle.script.proofs.Inward.{NoClosing, Shut, extend}
-use Rattle.script.proofs.Levels.{bracket_at-close}
+use Rattle.script.proofs.Levels.{bracket_at_close}
 
 -- bytes laid before some items
 abbrev laid : List ℕ → List Item → List Item
@@ -146,7 +146,7 @@ read_out : {A : Type 0} (p : Reads A) → Shut p → (l : List ℕ) (i j : ℕ) 
 read_out p shut l i j (Some close) at h r e =
     let in-line = at.within in
     let behind = at.after in
-    uncut p shut l close i j in-line (bracket_at-close at) (omega arith) (omega (arith, length-take-le (close + 1) l (omega arith))) r e
+    uncut p shut l close i j in-line (bracket_at_close at) (omega arith) (omega (arith, length-take-le (close + 1) l (omega arith))) r e
 read_out p shut l i j None at h r e = e
 
 -- what the inner reader reads, the outer one has read that takes over its place

@@ -52,9 +52,9 @@ module _ {A B : Type 0} {p : Reads A} {k : A → Reads B} (first : Lawful p) (ne
   onto xs ys zs a reads o e = ap (then p k) (append_assoc xs ys zs) ∙ step _ _ _ (reads (ys ++ zs)) ∙ e
 
   -- what the first reader can follow up, the second can
-  open-both : (xs : List Item) → Open p xs → Open (then p k) xs
+  open_both : (xs : List Item) → Open p xs → Open (then p k) xs
   unfolding then
-  open-both xs o =
+  open_both xs o =
       let more = (next o.value).some in
       record {
         value = more.value;
@@ -62,9 +62,9 @@ module _ {A B : Type 0} {p : Reads A} {k : A → Reads B} (first : Lawful p) (ne
         reads = λ s. ap (λ us. then p k (xs ++ us)) (append_assoc o.rest more.rest s) ∙ step _ _ _ (o.reads (more.rest ++ s)) ∙ more.reads s;
       }
 
-  keeps-both : (ts : List Item) (b : B) (r : List Item) → then p k ts ≡ got b r → Kept (then p k) ts b r
+  keeps_both : (ts : List Item) (b : B) (r : List Item) → then p k ts ≡ got b r → Kept (then p k) ts b r
   unfolding then
-  keeps-both ts b r e = go (p ts) refl
+  keeps_both ts b r e = go (p ts) refl
     where
       go : (o : Out A) → p ts ≡ o → Kept (then p k) ts b r
       go (got a m) is =
@@ -77,9 +77,9 @@ module _ {A B : Type 0} {p : Reads A} {k : A → Reads B} (first : Lawful p) (ne
           }
       go (stuck m) is = not_both e (ap (λ o. bind o k) is)
 
-  halts-both : (ts r : List Item) → then p k ts ≡ stuck r → Halted (then p k) ts r
+  halts_both : (ts r : List Item) → then p k ts ≡ stuck r → Halted (then p k) ts r
   unfolding then
-  halts-both ts r e = go (p ts) refl
+  halts_both ts r e = go (p ts) refl
     where
       go : (o : Out A) → p ts ≡ o → Halted (then p k) ts r
       go (got a m) is =
@@ -98,12 +98,12 @@ module _ {A B : Type 0} {p : Reads A} {k : A → Reads B} (first : Lawful p) (ne
           record {
             front = x.front;
             split = x.split;
-            goes_on = open-both x.front x.goes_on;
+            goes_on = open_both x.front x.goes_on;
             bars = λ t s u at. ap (λ o. bind o k) (x.bars t s u at);
           }
 
   pub lawful-bind : Lawful (then p k)
-  lawful-bind = record { some = open-both [] first.some; keeps = keeps-both; halts = halts-both }
+  lawful-bind = record { some = open_both [] first.some; keeps = keeps_both; halts = halts_both }
 
 -- takes an item that stands for a value, and is stuck at one that does not
 abbrev pub taken : {A : Type 0} → Option A → Item → List Item → Out A
@@ -169,9 +169,9 @@ module _ {A : Type 0} (test : Item → Bool) (p q : Reads A) where
   chosen-first [] e = absurd (let z : ◌≡◌ {A = ℕ} 0 1 = cc in omega arith)
   chosen-first (t ∷ ts) e = ap (λ b. cond b (p (t ∷ ts)) (q (t ∷ ts))) e
 
-  pub chosen-second : (ts : List Item) → ahead test ts ≡ false → choose test p q ts ≡ q ts
-  chosen-second [] e = refl
-  chosen-second (t ∷ ts) e = ap (λ b. cond b (p (t ∷ ts)) (q (t ∷ ts))) e
+  pub chosen_second : (ts : List Item) → ahead test ts ≡ false → choose test p q ts ≡ q ts
+  chosen_second [] e = refl
+  chosen_second (t ∷ ts) e = ap (λ b. cond b (p (t ∷ ts)) (q (t ∷ ts))) e
 
 -- a reader whose values all begin with items that a test answers alike
 pub record Begins {A : Type 0} (test : Item → Bool) (answer : Bool) (p : Reads A) : Type 0 where
@@ -204,7 +204,7 @@ module _ {A : Type 0} {test : Item → Bool} {answer : Bool} {p q : Reads A} (b 
 pub lawful-choose : {A : Type 0} {test : Item → Bool} {p q : Reads A} → Begins test true p → Begins test false q → Lawful (choose test p q)
 lawful-choose {A} {test} {p} {q} yes-p no-q =
     let first = chosen-first test p q in
-    let second = chosen-second test p q in
+    let second = chosen_second test p q in
     record {
       some = open-alike yes-p first [] yes-p.lawful.some;
       keeps = λ ts a r e. ⊎_elim (λ h. keeps-alike yes-p first ts h a r e) (λ h. keeps-alike no-q second ts h a r e) (cases_Bool (ahead test ts));

@@ -110,14 +110,14 @@ behind-opens c (end ∷ ts) h r e = not_both e refl
 lawful-some-code : Lawful some_code
 lawful-some-code = lawful-bind (lawful-means number_in (codes "0") 0 refl) (λ _. lawful-bind lawful-parts (λ _. lawful-gives _))
 
-some-code_other : (ts : List Item) (h : Heard) (r : List Item) → then some_code behind_code ts ≡ got h r → ahead is_opening ts ≡ false
+some_code_other : (ts : List Item) (h : Heard) (r : List Item) → then some_code behind_code ts ≡ got h r → ahead is_opening ts ≡ false
 unfolding then
-some-code_other [] h r e = refl
-some-code_other (opening ∷ ts) h r e = not_both e refl
-some-code_other (closing ∷ ts) h r e = refl
-some-code_other (space ∷ ts) h r e = refl
-some-code_other (word bs ∷ ts) h r e = refl
-some-code_other (end ∷ ts) h r e = refl
+some_code_other [] h r e = refl
+some_code_other (opening ∷ ts) h r e = not_both e refl
+some_code_other (closing ∷ ts) h r e = refl
+some_code_other (space ∷ ts) h r e = refl
+some_code_other (word bs ∷ ts) h r e = refl
+some_code_other (end ∷ ts) h r e = refl
 
 lawful_heard : Lawful heard_fields
 unfolding heard_fields code behind_code then
@@ -126,7 +126,7 @@ lawful_heard =
     lawful_like (λ ts. ap (λ o. bind o behind_code) (unless_choose None some_code ts) ∙ choose-bind is_opening (gives None) some_code behind_code ts)
     (lawful-choose
     (record { lawful = lawful-bind (lawful-gives None) lawful-behind; begins = behind-opens None })
-    (record { lawful = lawful-bind lawful-some-code lawful-behind; begins = some-code_other })))
+    (record { lawful = lawful-bind lawful-some-code lawful-behind; begins = some_code_other })))
 
 lawful-mask : Lawful mask
 unfolding mask

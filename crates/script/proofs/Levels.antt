@@ -111,8 +111,8 @@ ends {line} {start} {at} s within closes =
     }
 
 -- where a form closes, a closing bracket stands
-pub bracket_at-close : {line : List ℕ} {start close : ℕ} → ClosesAt line start close → get_or line close 0 ≡ 41
-bracket_at-close {line} {start} {close} c =
+pub bracket_at_close : {line : List ℕ} {start close : ℕ} → ClosesAt line start close → get_or line close 0 ≡ 41
+bracket_at_close {line} {start} {close} c =
     ⊎_elim
     (λ is. is)
     (λ other. absurd (omega (arith, count_not 41 line close c.within other, count_join 41 line start close (close + 1) before (omega arith), count_join 40 line start close (close + 1) before (omega arith), c.even, c.inside close c.after (omega arith))))

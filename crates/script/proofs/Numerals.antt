@@ -73,15 +73,15 @@ own : IsNumeralModel (λ ds. all_ascii_digits ds ≡ true) (digits_value 10)
 own = numerals_by_value _ tells_all_ascii_digits
 
 -- the test tells plain bytes
-pub plain-from_test : (bytes : List ℕ) → is_number bytes ≡ true → Plain bytes
-plain-from_test bytes e =
+pub plain_from_test : (bytes : List ℕ) → is_number bytes ≡ true → Plain bytes
+plain_from_test bytes e =
     record {
       digits = own.to bytes (grind (arith, nat_tests));
       trim = record { some = grind (arith, nat_tests); short = grind (arith, nat_tests); lead = λ zero. grind (arith, nat_tests) };
     }
 
-pub test_from-plain : (bytes : List ℕ) → Plain bytes → is_number bytes ≡ true
-test_from-plain bytes p =
+pub test_from_plain : (bytes : List ℕ) → Plain bytes → is_number bytes ≡ true
+test_from_plain bytes p =
     let d = own.from bytes p.digits in
     let s = p.trim.some in
     let t = p.trim.short in
@@ -104,6 +104,6 @@ answer_other bytes None h other = refl
 pub number_is : (bytes : List ℕ) (r : Option ℕ) → NumberOf bytes r → r ≡ number_in bytes
 number_is bytes r h =
     ⊎_elim
-    (λ e. answer_plain bytes r h (plain-from_test bytes e) ∙ sym (cond-true (is_number bytes) (Some (digits_value 10 bytes)) None e))
-    (λ e. answer_other bytes r h (λ p. both_ways (is_number bytes) e (test_from-plain bytes p)) ∙ sym (cond-false (is_number bytes) (Some (digits_value 10 bytes)) None e))
+    (λ e. answer_plain bytes r h (plain_from_test bytes e) ∙ sym (cond-true (is_number bytes) (Some (digits_value 10 bytes)) None e))
+    (λ e. answer_other bytes r h (λ p. both_ways (is_number bytes) e (test_from_plain bytes p)) ∙ sym (cond-false (is_number bytes) (Some (digits_value 10 bytes)) None e))
     (cases_Bool (is_number bytes))

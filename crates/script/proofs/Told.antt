@@ -25,7 +25,7 @@ use Rattle.script.specs.declared.names.DrawsName.{DrawsName}
 use Rattle.script.specs.declared.names.DrawsName.TheVariants as draws
 use Rattle.script.specs.Words.{named, service_of, function_of, kind_of, form_of, content_of, mask_of, draws_of, is_number, number_in, first_of, service_words, function_words, kind_words, form_words, content_words, mask_words, draws_words}
 use Rattle.script.specs.Writing.{Small, service_word, function_word, kind_word, first_word, SmallFirst, form_word, content_word, mask_word, draws_word}
-use Rattle.script.proofs.Numerals.{plain_decimal, number-plain, plain-from_test, test_from-plain}
+use Rattle.script.proofs.Numerals.{plain_decimal, number-plain, plain_from_test, test_from_plain}
 
 -- a word stands for a value exactly where it is the word that is written for it
 pub record Tells {A : Type 0} (of : List ℕ → Option A) (word_for : A → List ℕ) (Good : A → Type 0) : Type 0 where
@@ -132,14 +132,14 @@ tells-number = record { sound = λ bs n e. sound bs n e (is_number bs) refl; com
     sound bs n e true is =
         let here : Some (digits_value 10 bs) ≡ Some n = sym (ap (λ b. cond b (Some (digits_value 10 bs)) None) is) ∙ e in
         let same : digits_value 10 bs ≡ n = cc in
-        subst (λ m. (bs ≡ decimal m) × Small m) same (number-plain bs (plain-from_test bs is))
+        subst (λ m. (bs ≡ decimal m) × Small m) same (number-plain bs (plain_from_test bs is))
     sound bs n e false is =
         let here : ◌≡◌ {A = Option ℕ} None (Some n) = sym (ap (λ b. cond b (Some (digits_value 10 bs)) None) is) ∙ e in
         absurd (let z : ◌≡◌ {A = ℕ} 0 1 = cc in omega arith)
 
     complete : (n : ℕ) → Small n → number_in (decimal n) ≡ Some n
     complete n small =
-        ap (λ b. cond b (Some (digits_value 10 (decimal n))) None) (test_from-plain (decimal n) (plain_decimal n small)) ∙ ap Some (decimal_is_IsNumeral n (omega arith)).1
+        ap (λ b. cond b (Some (digits_value 10 (decimal n))) None) (test_from_plain (decimal n) (plain_decimal n small)) ∙ ap Some (decimal_is_IsNumeral n (omega arith)).1
 
 not_regi : (n : ℕ) → Small n → bytes_eq (decimal n) (codes "regi") ≡ false
 not_regi n small =

@@ -1,5 +1,5 @@
 use Rattle.std.proofs.Common.{arith}
-use Rattle.player.proofs.Cuts.{line-more, behind_more, line-ends, behind-ends, line-stops, behind-stops}
+use Rattle.player.proofs.Cuts.{line-more, behind_more, line-ends, behind-ends, line_stops, behind_stops}
 use Rattle.player.proofs.play.line_end.Goals as goal
 
 pub loop-end-preserved : goal.loop-end-preserved
@@ -32,6 +32,6 @@ returns-after-loop-end c =
     record {
       within = inv.1;
       onward = inv.0;
-      line = line-stops c.args.script.now c.args.from c.loop-end.end past inv.2;
-      behind = behind-stops c.args.script.now c.args.from c.loop-end.end past inv.3;
+      line = line_stops c.args.script.now c.args.from c.loop-end.end past inv.2;
+      behind = behind_stops c.args.script.now c.args.from c.loop-end.end past inv.3;
     }

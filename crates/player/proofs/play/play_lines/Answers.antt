@@ -1,5 +1,5 @@
 use Rattle.player.specs.Benches.{bench_of}
-use Rattle.player.proofs.Plays.{played-more, played-over, printed_more, printed_all}
+use Rattle.player.proofs.Plays.{played-more, played_over, printed_more, printed_all}
 use Rattle.player.proofs.play.play_lines.Goals as goal
 
 pub loop-at-preserved : goal.loop-at-preserved
@@ -11,4 +11,4 @@ loop-at-preserved c =
     c.loop-at.invariant
 
 pub returns : goal.returns
-returns c = printed_all _ _ _ (played-over _ _ _ c.loop-at-test.false) c.loop-at.invariant
+returns c = printed_all _ _ _ (played_over _ _ _ c.loop-at-test.false) c.loop-at.invariant

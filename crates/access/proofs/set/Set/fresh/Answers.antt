@@ -1,7 +1,7 @@
 use Rattle.std.proofs.Common.{rules}
 use Rattle.rules.specs.Meanings.{meaning, Lawful}
 use Rattle.rules.proofs.Cards.{ranged}
-use Rattle.rules.proofs.Runs.{run-law}
+use Rattle.rules.proofs.Runs.{run_law}
 use Rattle.access.proofs.set.Set.fresh.Goals as goal
 
 -- the laws of the parts give the run law
@@ -11,5 +11,5 @@ returns g c =
     let laws : Lawful parts = record { within = g.met.D.DrawSource.chosen_within; ordinary = g.met.S.Service.ordinary_not_by_alhe } in
     record {
       set = search rules;
-      law = run-law parts laws c.args.card (ranged c.args.card c.args.channel c.requires) c.args.channel c.args.source;
+      law = run_law parts laws c.args.card (ranged c.args.card c.args.channel c.requires) c.args.channel c.args.source;
     }
