@@ -1,11 +1,11 @@
 // How a request in try chooses a return slot, and when a permit is ready for it.
-ghost use Rattle.std.specs.Prelude.{◌≡◌, ◌&&◌, if◌then◌else◌, ◌==◌};
+ghost use Rattle.std.specs.Prelude.{◌≡◌, ℕ, Bool, ◌&&◌, if◌then◌else◌, ◌==◌};
 ghost use Rattle.signalling.specs.Division.{admits};
 ghost use Rattle.signalling.specs.Frames.{slots_of};
 ghost use Rattle.signalling.specs.Reading.{marked, leaves_free};
 ghost use Rattle.rules.specs.Choosing.{may_choose, draws, chosen, permitted, choice_after, choosing, source_after};
 ghost use Rattle.rules.specs.Frames.{covered};
-ghost use Rattle.rules.specs.Meanings.{meaning, any_code};
+ghost use Rattle.rules.specs.Meanings.{meaning};
 
 use crate::cover::is_covered;
 use parts::service::Service;
@@ -47,8 +47,8 @@ fn pick<D: DrawSource, S: Service>(
     frame: Option<FrameLength>,
     own: u32,
 ) -> Choice
-    ensures choice { result ≡ chosen (meaning D.ready D.drawn S.invites S.emergency S.verdict any_code) own source.old live.now stay.now (slots_of frame) }
-    ensures after { source.new ≡ (if draws (meaning D.ready D.drawn S.invites S.emergency S.verdict any_code) own live.now.service stay.now (slots_of frame) then D.drawn source.old (slots_of frame) else source.old) }
+    ensures choice { (codes : ℕ → Bool) → result ≡ chosen (meaning D.ready D.drawn S.invites S.emergency S.verdict codes) own source.old live.now stay.now (slots_of frame) }
+    ensures after { (codes : ℕ → Bool) → source.new ≡ (if draws (meaning D.ready D.drawn S.invites S.emergency S.verdict codes) own live.now.service stay.now (slots_of frame) then D.drawn source.old (slots_of frame) else source.old) }
 {
     if let Some(frame) = frame {
         if is_suitable(&live.service, stay.noted, own) {
@@ -102,8 +102,8 @@ fn choice_after<D: DrawSource, S: Service>(
     content: &Content,
     own: u32,
 ) -> Choice
-    ensures choice { result ≡ choice_after (meaning D.ready D.drawn S.invites S.emergency S.verdict any_code) own (leaves_free content.now own) source.old live.now window choice stay.now (marked content.now) }
-    ensures after { source.new ≡ (if may_choose window choice && draws (meaning D.ready D.drawn S.invites S.emergency S.verdict any_code) own live.now.service stay.now (marked content.now) then D.drawn source.old (marked content.now) else source.old) }
+    ensures choice { (codes : ℕ → Bool) → result ≡ choice_after (meaning D.ready D.drawn S.invites S.emergency S.verdict codes) own (leaves_free content.now own) source.old live.now window choice stay.now (marked content.now) }
+    ensures after { (codes : ℕ → Bool) → source.new ≡ (if may_choose window choice && draws (meaning D.ready D.drawn S.invites S.emergency S.verdict codes) own live.now.service stay.now (marked content.now) then D.drawn source.old (marked content.now) else source.old) }
 {
     let free = content.leaves_free(own);
     if may_choose(window, choice) {
@@ -121,8 +121,8 @@ pub fn choose<D: DrawSource, S: Service + Drop>(
     content: &Content,
     own: u32,
 ) -> Job<S>
-    ensures job { result ≡ choosing (meaning D.ready D.drawn S.invites S.emergency S.verdict any_code) own (leaves_free content.now own) source.old job stay.now (marked content.now) }
-    ensures after { source.new ≡ source_after (meaning D.ready D.drawn S.invites S.emergency S.verdict any_code) own source.old job stay.now (marked content.now) }
+    ensures job { (codes : ℕ → Bool) → result ≡ choosing (meaning D.ready D.drawn S.invites S.emergency S.verdict codes) own (leaves_free content.now own) source.old job stay.now (marked content.now) }
+    ensures after { (codes : ℕ → Bool) → source.new ≡ source_after (meaning D.ready D.drawn S.invites S.emergency S.verdict codes) own source.old job stay.now (marked content.now) }
 {
     match job {
         Job::Trying {

@@ -1,5 +1,5 @@
 -- What the three parts of a set mean, together.
-use Rattle.std.specs.Prelude.{◌≡◌, ℕ, ◌≤◌, Bool, true, false}
+use Rattle.std.specs.Prelude.{◌≡◌, ℕ, ◌≤◌, Bool, false}
 use Rattle.signalling.specs.declared.content.Content.{Content}
 use Rattle.signalling.specs.declared.content.Function.{Function}
 use Rattle.signalling.specs.declared.content.Function.TheVariants.{Alhe}
@@ -19,10 +19,6 @@ pub record Meaning (D S : Type 0) : Type 0 where
 
 abbrev pub meaning : {D S : Type 0} → (D → ℕ → ℕ) → (D → ℕ → D) → (S → Function → Bool) → (S → Bool) → (S → Content → ℕ → Verdict) → (ℕ → Bool) → Meaning D S
 meaning r d i e v a = record { ready = r; drawn = d; invites = i; emergency = e; verdict = v; accepts = a }
-
--- a plan that accepts every code: choosing a slot does not ask which codes are accepted
-abbrev pub any_code : ℕ → Bool
-any_code code = true
 
 -- the laws of the parts that the run law rests on
 pub record Lawful {D S : Type 0} (m : Meaning D S) : Type 0 where
