@@ -1,12 +1,13 @@
 -- A set as a whole: as it is made, and after a call.
-use Rattle.std.specs.Prelude.{ℕ, Some, None, Ok, Err, Option, Result}
+use Rattle.std.specs.Prelude.{ℕ, Ok, Err, Option, Result}
 use Rattle.signalling.specs.declared.content.Content.{Content}
 use Rattle.signalling.specs.declared.refusal.Refusal.{Refusal}
 use Rattle.rules.specs.declared.card.Card.{Card}
 use Rattle.rules.specs.declared.request.Condition.{Condition}
+use Rattle.rules.specs.declared.request.End.{End}
+use Rattle.rules.specs.declared.request.Job.{Job}
 use Rattle.rules.specs.declared.request.Job.TheVariants.{Free}
-use Rattle.rules.specs.declared.request.Progress.{Progress}
-use Rattle.rules.specs.Cards.{card_refusal}
+use Rattle.rules.specs.Cards.{card_judged}
 use Rattle.rules.specs.Meanings.{Meaning}
 use Rattle.rules.specs.Slots.{job_in, source_in}
 use Rattle.rules.specs.Stations.{seeking_on}
@@ -20,7 +21,7 @@ abbrev pub in_condition : {D S P : Type 0} → Set D S P → Condition D S → S
 in_condition set c = record { card = set.card; plan = set.plan; condition = c }
 
 -- a condition after the choice of a slot for what is left of a request
-abbrev pub chosen_in : {D S : Type 0} → Meaning D S → Card → Condition D S → Progress S → Content → Condition D S
+abbrev pub chosen_in : {D S : Type 0} → Meaning D S → Card → Condition D S → Result (Job S) End → Content → Condition D S
 chosen_in m card c p content = record { station = c.station; job = job_in m card c.source c.station.stay p content; source = source_in m card c.source c.station.stay p content }
 
 -- a set as it is made seeks on its channel and has no request
@@ -31,13 +32,13 @@ abbrev pub fresh_set : {D S P : Type 0} → Card → ℕ → D → P → Set D S
 fresh_set card ch source plan = record { card = card; plan = plan; condition = fresh_on ch source }
 
 -- a fresh set, or the refusal with source and plan given back
-abbrev pub made_unless : {D S P : Type 0} → Option Refusal → Card → ℕ → D → P → Result (Set D S P) (NotMade D P)
-made_unless None card ch source plan = Ok (fresh_set card ch source plan)
-made_unless (Some e) card ch source plan = Err (record { refusal = e; source = source; plan = plan })
+abbrev pub made_unless : {D S P : Type 0} → Result (Unit {0}) Refusal → Card → ℕ → D → P → Result (Set D S P) (NotMade D P)
+made_unless (Ok x) card ch source plan = Ok (fresh_set card ch source plan)
+made_unless (Err e) card ch source plan = Err (record { refusal = e; source = source; plan = plan })
 
 -- make answers a set unless a number is out of range
 abbrev pub make_answer : {D S P : Type 0} → Card → ℕ → D → P → Result (Set D S P) (NotMade D P)
-make_answer card ch source plan = made_unless (card_refusal card ch) card ch source plan
+make_answer card ch source plan = made_unless (card_judged card ch) card ch source plan
 
 -- a permit for an address, or an empty one
 abbrev pub permit_for : Option ℕ → Permit

@@ -5,7 +5,8 @@ ghost use Rattle.access.specs.Sets.{permit_for};
 use signalling::refusal::Refusal;
 
 // A permit carries the address that it is for; an empty one carries none and permits nothing. One that carries
-// an address goes back to its set by `sent` or `held`, and may not be let go.
+// an address goes back to its set by `sent` or `held`, and may not be let go. An `Option` of a permit would be no
+// plainer: an empty one can be brought back like any other, and is refused.
 pub struct Permit {
     pub(crate) address: Option<u32>,
 }

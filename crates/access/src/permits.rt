@@ -17,10 +17,12 @@ use signalling::refusal::Refusal;
 fn hand_over<S>(job: &mut Job<S>)
     ensures { job.new ≡ taken_job job.old }
 {
-    if let Job::Trying { choice, .. } = job {
-        if let Choice::Ready = *choice {
-            *choice = Choice::Out;
-        }
+    if let Job::Trying {
+        choice: choice @ Choice::Ready,
+        ..
+    } = job
+    {
+        *choice = Choice::Out;
     }
 }
 
@@ -36,7 +38,7 @@ fn note_sent<S>(job: &mut Job<S>, wait: u32)
     {
         live.sends = live.sends.saturating_add(1);
         live.since = 0;
-        *window = wait.saturating_add(1).saturating_add(1);
+        *window = wait.saturating_add(2);
         *choice = Choice::Unchosen;
     }
 }
@@ -54,10 +56,7 @@ fn note_held<S>(job: &mut Job<S>)
 fn wait_noted(stay: &Option<Stay>) -> u32
     ensures { result ≡ wait_now stay.now }
 {
-    match stay {
-        Some(stay) => stay.noted.wait,
-        None => 0,
-    }
+    stay.as_ref().map_or(0, |stay| stay.noted.wait)
 }
 
 impl<D: DrawSource, S: Service + Drop, P: NetworkPlan> Set<D, S, P> {
@@ -68,12 +67,8 @@ impl<D: DrawSource, S: Service + Drop, P: NetworkPlan> Set<D, S, P> {
     {
         let ready = is_ready(&self.condition.job);
         hand_over(&mut self.condition.job);
-        if ready {
-            Permit {
-                address: Some(self.card.address),
-            }
-        } else {
-            Permit { address: None }
+        Permit {
+            address: ready.then_some(self.card.address),
         }
     }
 
@@ -84,11 +79,11 @@ impl<D: DrawSource, S: Service + Drop, P: NetworkPlan> Set<D, S, P> {
         if !is_out(&self.condition.job) {
             return Err(Refusal::NoPermit);
         }
-        match permit.address {
-            Some(address) if address == self.card.address => Ok(()),
-            Some(_) => Err(Refusal::OtherAddress),
-            None => Err(Refusal::NoPermit),
+        let address = permit.address.ok_or(Refusal::NoPermit)?;
+        if address != self.card.address {
+            return Err(Refusal::OtherAddress);
         }
+        Ok(())
     }
 
     // Takes in the permit that is out; any other stays with its holder.

@@ -9,13 +9,9 @@ fn run(rt: &HostRuntime) -> anyhow::Result<()> {
     let mut input = Vec::new(rt.alloc());
     // one byte more than a script may have tells that it is too long
     let _ = rt.stdin().take(65_537).read_to_end(&mut input)?;
-    match play(rt.alloc(), input.as_slice()) {
-        Ok(printed) => {
-            rt.stdout().write_all(printed.as_bytes())?;
-            Ok(())
-        }
-        Err(_) => Err(anyhow!("want of memory")),
-    }
+    let printed = play(rt.alloc(), input.as_slice()).map_err(|_| anyhow!("want of memory"))?;
+    rt.stdout().write_all(printed.as_bytes())?;
+    Ok(())
 }
 
 fn main(rt: HostRuntime) -> anyhow::Result<()> {

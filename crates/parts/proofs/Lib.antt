@@ -1,2 +1,2 @@
 mod After
-mod Places
+pub mod Places

@@ -1,4 +1,4 @@
--- Reading the front of a list by place.
+-- Reading the front of a list by place: for proofs about numbers kept in an array with a count.
 use Rattle.std.proofs.Common.{◌≡◌, ℕ, ◌<◌, ◌≤◌, min, List, length, get_or, take, Some, None, ap, ◌∙◌, arith, length-take, get_or-take}
 use Rattle.std.specs.List.{slice_get}
 use Rattle.std.proofs.lemmas.Option.{slice_get-get_or, slice_get_past}

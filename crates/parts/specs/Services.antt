@@ -78,7 +78,7 @@ call_answered Acko qual = Nothing
 abbrev pub registration_verdict : Content → ℕ → Verdict
 registration_verdict Deaf own = Nothing
 registration_verdict (Data rsa mine) own = Nothing
-registration_verdict (Aloha function number wt m address) own = Nothing
+registration_verdict (Aloha function number wt d) own = Nothing
 registration_verdict (Reply kind qual number first to) own = cond (to == own && for_registration first) (registration_answered kind qual) Nothing
 registration_verdict (Go to partner channel number) own = Nothing
 registration_verdict (Ahy ad to) own = Nothing
@@ -86,14 +86,14 @@ registration_verdict (Ahyq ipfixi to) own = Nothing
 registration_verdict (Head to) own = Nothing
 registration_verdict Mark own = Nothing
 registration_verdict Bcast own = Nothing
-registration_verdict (Move m address channel) own = Nothing
+registration_verdict (Move d channel) own = Nothing
 registration_verdict Other own = Nothing
 
 -- a call heeds acknowledgements to the own address with a plain first ident, and Go To Channel with the own address on either side
 abbrev pub call_verdict : Content → ℕ → Verdict
 call_verdict Deaf own = Nothing
 call_verdict (Data rsa mine) own = Nothing
-call_verdict (Aloha function number wt m address) own = Nothing
+call_verdict (Aloha function number wt d) own = Nothing
 call_verdict (Reply kind qual number first to) own = cond (to == own && not (for_registration first)) (call_answered kind qual) Nothing
 call_verdict (Go to partner channel number) own = cond (to == own || partner == own) (End Granted) Nothing
 call_verdict (Ahy ad to) own = Nothing
@@ -101,7 +101,7 @@ call_verdict (Ahyq ipfixi to) own = Nothing
 call_verdict (Head to) own = Nothing
 call_verdict Mark own = Nothing
 call_verdict Bcast own = Nothing
-call_verdict (Move m address channel) own = Nothing
+call_verdict (Move d channel) own = Nothing
 call_verdict Other own = Nothing
 
 -- the choice among the three takes everything from the one chosen

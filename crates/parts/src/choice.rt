@@ -1,4 +1,4 @@
-// A choice among the three services, itself a service.
+// A choice among the three services, itself a service: an enum, which needs no heap and no table of functions.
 ghost use Rattle.parts.specs.Services.{choice_invited, choice_emergency, choice_verdict};
 ghost use Rattle.std.proofs.Common.{rules};
 

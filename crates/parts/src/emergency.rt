@@ -1,4 +1,4 @@
-// RQE: an emergency call, the only service that is an emergency.
+// RQE: an emergency call, the only service that is an emergency. A type of its own, which proves the laws by itself.
 ghost use Rattle.std.specs.Prelude.{true};
 ghost use Rattle.parts.specs.Services.{emergency_invited, call_verdict};
 ghost use Rattle.std.proofs.Common.{rules};

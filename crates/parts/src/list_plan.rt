@@ -1,5 +1,4 @@
 // A network plan that lists its system codes.
-ghost use Rattle.std.specs.Prelude.{◌≡◌, ◌==◌};
 ghost use Rattle.parts.specs.Plans.{stands_in};
 
 use crate::plan::NetworkPlan;
@@ -10,19 +9,13 @@ pub struct ListPlan<'a> {
     pub codes: &'a [u32],
 }
 
-// Whether a listed code is the one asked for.
-fn is_same(listed: u32, code: u32) -> bool
-    ensures { result ≡ (listed == code) }
-{
-    listed == code
-}
-
 impl NetworkPlan for ListPlan<'_> {
     ghost accepts = { λ plan code. stands_in code plan.codes.now };
 
     fn is_accepted(&self, code: u32) -> bool {
+        // this plan is to answer by a `for` over its shared slice, code by code
         for listed in self.codes {
-            if is_same(*listed, code) {
+            if *listed == code {
                 return true;
             }
         }

@@ -1,4 +1,4 @@
-// RQR: a registration.
+// RQR: a registration. A type of its own, which proves the laws by itself.
 ghost use Rattle.std.specs.Prelude.{false};
 ghost use Rattle.parts.specs.Services.{registration_invited, registration_verdict};
 ghost use Rattle.std.proofs.Common.{rules};

@@ -1,4 +1,4 @@
-// RQS: an ordinary call.
+// RQS: an ordinary call. A type of its own, which proves the laws by itself.
 ghost use Rattle.std.specs.Prelude.{false};
 ghost use Rattle.parts.specs.Services.{call_invited, call_verdict};
 ghost use Rattle.std.proofs.Common.{rules};

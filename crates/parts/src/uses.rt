@@ -10,7 +10,8 @@ use signalling::frame_length::FrameLength;
 pub fn slot_of<D: DrawSource>(source: &mut D, frame: FrameLength) -> u32
     ensures value { result ≡ D.ready source.old frame.slots }
     ensures after { source.new ≡ D.drawn source.old frame.slots }
-    ensures inside { (1 ≤ result) × (result ≤ frame.slots) }
+    ensures least { 1 ≤ result }
+    ensures most { result ≤ frame.slots }
 {
     source.draw(frame)
 }

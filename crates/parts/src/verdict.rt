@@ -1,7 +1,7 @@
 // How a request ends, and what a heard content means to it.
 
 // The word of an end.
-#[derive(Clone, Copy)]
+#[derive(Clone, Copy, PartialEq, Eq)]
 pub enum EndWord {
     // no slot came in time, and nothing was sent
     NoAccess,
@@ -24,7 +24,7 @@ pub enum EndWord {
 }
 
 // What a heard content means to a request: nothing, that it is to wait, or its end.
-#[derive(Clone, Copy)]
+#[derive(Clone, Copy, PartialEq, Eq)]
 pub enum Verdict {
     Nothing,
     Interim,

@@ -1,29 +1,38 @@
 -- Playing line by line.
-use Rattle.std.proofs.Common.{◌≡◌, ℕ, ◌<◌, ◌≤◌, List, [], ◌∷◌, ◌++◌, length, drop, Option, sym, ap, ◌∙◌, append_assoc, append-nil}
-use Rattle.printing.specs.declared.answer.Answer.{Answer}
+use Rattle.std.proofs.Common.{◌≡◌, ◌==◌, ℕ, ◌+◌, ◌<◌, Bool, true, false, cond, not, List, [], ◌∷◌, ◌++◌, length, take, drop, Option, refl, ap, ◌∙◌, arith}
+use Rattle.std.proofs.lemmas.Grind.{common_steps}
+use Rattle.std.specs.List.{prefix_len, before_first, after_first}
 use Rattle.printing.specs.Printed.{answer_line}
 use Rattle.script.specs.Judged.{reading}
 use Rattle.player.specs.Answers.{Manning, line_answer, line_after}
-use Rattle.player.specs.Lines.{lines, first_line, behind_line}
+use Rattle.player.specs.Lines.{prefixed, lines}
 use Rattle.player.specs.Playing.{played_on}
-use Rattle.player.proofs.Cuts.{lines_on, lines_over}
 
-module _ (b : Option Manning) (xs : List ℕ) (i : ℕ) where
-  -- one line is played, and the others behind it
-  pub played-more : (after : Option Manning) (answer : Answer) (line rest : List ℕ) → i < length xs → first_line (drop i xs) ≡ line → behind_line (drop i xs) ≡ rest → after ≡ line_after b (reading line) → answer ≡ line_answer b (reading line) → played_on b (lines (drop i xs)) ≡ answer_line answer ++ played_on after (lines rest)
-  unfolding played_on
-  played-more after answer line rest within first behind so told =
-      let cut : lines (drop i xs) ≡ line ∷ lines rest = lines_on xs i within ∙ ap (λ l. l ∷ lines (behind_line (drop i xs))) first ∙ ap (λ r. line ∷ lines r) behind in
-      ap (played_on b) cut ∙ ap (λ a. answer_line a ++ played_on (line_after b (reading line)) (lines rest)) (sym told) ∙ ap (λ m. answer_line answer ++ played_on m (lines rest)) (sym so)
+-- a byte in front of a cut script stands in front of its first line
+cut_on : (b n : ℕ) (bs : List ℕ) → (b ∷ take n bs) ∷ lines (drop (n + 1) bs) ≡ take (1 + n) (b ∷ bs) ∷ lines (drop (1 + n + 1) (b ∷ bs))
+cut_on b n bs = grind (arith, common_steps)
 
-  -- behind the last line nothing is played
-  pub played_over : length xs ≤ i → played_on b (lines (drop i xs)) ≡ []
-  unfolding played_on
-  played_over past = ap (played_on b) (lines_over xs i past)
+-- a script that is not at its end has a first line, and then the lines behind it
+lines_cut : (b : ℕ) (bs : List ℕ) → lines (b ∷ bs) ≡ before_first (λ x. x == 10) (b ∷ bs) ∷ lines (after_first (λ x. x == 10) (b ∷ bs))
+lines_cut b [] = last (b == 10)
+  where
+    last : (is : Bool) → cond is ([] ∷ lines []) (prefixed b (lines [])) ≡ take (cond (not is) 1 0) (b ∷ []) ∷ lines (drop (cond (not is) 1 0 + 1) (b ∷ []))
+    last true = refl
+    last false = refl
+lines_cut b (x ∷ xs) = more (b == 10) (prefix_len (λ y. not (y == 10)) (x ∷ xs)) (lines_cut x xs)
+  where
+    more : (is : Bool) (n : ℕ) → lines (x ∷ xs) ≡ take n (x ∷ xs) ∷ lines (drop (n + 1) (x ∷ xs)) → cond is ([] ∷ lines (x ∷ xs)) (prefixed b (lines (x ∷ xs))) ≡ take (cond (not is) (1 + n) 0) (b ∷ x ∷ xs) ∷ lines (drop (cond (not is) (1 + n) 0 + 1) (b ∷ x ∷ xs))
+    more true n front = refl
+    more false n front = ap (prefixed b) front ∙ cut_on b n (x ∷ xs)
 
--- a printed line moves from what is left to what is printed
-pub printed_more : (printed printed' line left left' whole : List ℕ) → printed' ≡ printed ++ line → left ≡ line ++ left' → printed ++ left ≡ whole → printed' ++ left' ≡ whole
-printed_more printed printed' line left left' whole e f g = ap (λ p. p ++ left') e ∙ append_assoc printed line left' ∙ ap (λ l. printed ++ l) (sym f) ∙ g
+-- the first line is played, and then the others behind it
+pub played_more : (bench : Option Manning) (script : List ℕ) → 0 < length script → played_on bench (lines script) ≡ answer_line (line_answer bench (reading (before_first (λ x. x == 10) script))) ++ played_on (line_after bench (reading (before_first (λ x. x == 10) script))) (lines (after_first (λ x. x == 10) script))
+unfolding played_on
+played_more bench [] some = absurd (omega arith)
+played_more bench (b ∷ bs) some = ap (played_on bench) (lines_cut b bs)
 
-pub printed_all : (printed left whole : List ℕ) → left ≡ [] → printed ++ left ≡ whole → printed ≡ whole
-printed_all printed left whole e g = sym (append-nil printed) ∙ ap (λ l. printed ++ l) (sym e) ∙ g
+-- at its end nothing is played
+pub played_over : (bench : Option Manning) (script : List ℕ) → length script ≡ 0 → played_on bench (lines script) ≡ []
+unfolding played_on
+played_over bench [] none = refl
+played_over bench (b ∷ bs) none = absurd (omega arith)

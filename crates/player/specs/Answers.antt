@@ -1,9 +1,7 @@
 -- What a form does to the set on the bench, and what it is answered.
 use Rattle.std.specs.Prelude.{ℕ, Some, None, Ok, Err, Option, Result}
 use Rattle.signalling.specs.declared.refusal.Refusal.{Refusal}
-use Rattle.signalling.specs.Refusals.{number_of}
 use Rattle.parts.specs.declared.choice.AnyService.{AnyService}
-use Rattle.parts.specs.declared.choice.AnyService.TheVariants as services
 use Rattle.parts.specs.declared.few_numbers.FewNumbers.{FewNumbers}
 use Rattle.parts.specs.declared.list_source.ListSource.{ListSource}
 use Rattle.parts.specs.declared.plan.MaskPlan.{MaskPlan}
@@ -11,23 +9,20 @@ use Rattle.parts.specs.Lists.{list_ready, list_drawn, list_from}
 use Rattle.parts.specs.Numbers.{few_items}
 use Rattle.parts.specs.Plans.{mask_accepts}
 use Rattle.parts.specs.Services.{choice_invited, choice_emergency, choice_verdict}
-use Rattle.rules.specs.declared.card.Card.{Card}
 use Rattle.rules.specs.declared.request.Condition.{Condition}
 use Rattle.rules.specs.declared.request.End.{End}
 use Rattle.rules.specs.declared.request.Told.{Told}
 use Rattle.rules.specs.Calls.{tune_answer, tuned, begin_answer, begun, take_answer, taken, back_answer, sent_back, held_back, cancel_answer, cancelled, slot_answer, slotted}
 use Rattle.rules.specs.Meanings.{Meaning, meaning}
+use Rattle.access.specs.declared.permit.Kept.{Kept}
 use Rattle.access.specs.declared.set.Set.{Set}
 use Rattle.access.specs.declared.set.NotMade.{NotMade}
 use Rattle.access.specs.Sets.{in_condition, make_answer}
-use Rattle.script.specs.declared.draws.Draws.{Draws}
 use Rattle.script.specs.declared.fault.Fault.{Fault}
 use Rattle.script.specs.declared.fault.Fault.TheVariants.{OutOfTurn}
 use Rattle.script.specs.declared.form.Form.{Form}
 use Rattle.script.specs.declared.form.Form.TheVariants as forms
 use Rattle.script.specs.declared.form.MakeForm.{MakeForm}
-use Rattle.script.specs.declared.form.ServiceName.{ServiceName}
-use Rattle.script.specs.declared.form.ServiceName.TheVariants as named
 use Rattle.printing.specs.declared.answer.Answer.{Answer}
 use Rattle.printing.specs.declared.answer.Answer.TheVariants.{Done, Empty, Refused, Bad}
 use Rattle.printing.specs.declared.answer.Answer.TheVariants as answers
@@ -52,28 +47,34 @@ manning s p = record { set = s; permit = p }
 abbrev pub moved : Manning → Condition (ListSource FewNumbers) AnyService → Manning
 moved b c = manning (in_condition b.set c) b.permit
 
--- a refusal is told by its number
-abbrev pub refused_by : Refusal → Answer
-refused_by r = Refused (number_of r)
+-- what a call told, or its refusal, which is an answer as well
+abbrev pub told : Result Answer Refusal → Answer
+told (Ok answer) = answer
+told (Err r) = Refused r
 
 -- an end that a call answers, or its refusal
 abbrev pub done_or : Result (Option End) Refusal → Answer
 done_or (Ok e) = Done e
-done_or (Err r) = refused_by r
+done_or (Err r) = Refused r
 
 abbrev pub end_or : Result End Refusal → Answer
 end_or (Ok e) = Done (Some e)
-end_or (Err r) = refused_by r
+end_or (Err r) = Refused r
 
 -- a call that answers nothing but that it is done, or its refusal
 abbrev pub plain_or : Result (Unit {0}) Refusal → Answer
 plain_or (Ok x) = Done None
-plain_or (Err r) = refused_by r
+plain_or (Err r) = Refused r
+
+-- a permit that was brought back, or its refusal
+abbrev pub put_answer : Result (Unit {0}) Kept → Answer
+put_answer (Ok x) = Done None
+put_answer (Err k) = Refused k.refusal
 
 -- what a heard slot is answered
 abbrev pub heard_or : Result Told Refusal → Answer
-heard_or (Ok t) = answers.Heard t.state t.ready t.end
-heard_or (Err r) = refused_by r
+heard_or (Ok t) = answers.Heard t
+heard_or (Err r) = Refused r
 
 -- a permit that was handed over, or none
 abbrev pub taken_or : Option ℕ → Answer
@@ -90,12 +91,6 @@ abbrev pub back_or : Result (Unit {0}) Refusal → Option ℕ → Option ℕ
 back_or (Ok x) old = None
 back_or (Err r) old = old
 
--- the service of a name
-abbrev pub service_of : ServiceName → AnyService
-service_of named.Rqs = services.Rqs
-service_of named.Rqr = services.Rqr
-service_of named.Rqe = services.Rqe
-
 -- what a form other than make is answered
 abbrev pub call_answer : Manning → Form → Answer
 call_answer b (forms.Make x) = Bad OutOfTurn
@@ -111,30 +106,21 @@ call_answer b (forms.Slot h) = heard_or (slot_answer (script_meaning b.set.plan)
 abbrev pub call_after : Manning → Form → Manning
 call_after b (forms.Make x) = b
 call_after b (forms.Tune ch) = moved b (tuned b.set.condition ch)
-call_after b (forms.Begin s) = moved b (begun b.set.condition (service_of s))
+call_after b (forms.Begin s) = moved b (begun b.set.condition s)
 call_after b forms.Take = manning (in_condition b.set (taken b.set.condition)) (kept_or (take_answer b.set.card b.set.condition) b.permit)
 call_after b forms.Sent = manning (in_condition b.set (sent_back b.set.card b.set.condition b.permit)) (back_or (back_answer b.set.card b.set.condition b.permit) b.permit)
 call_after b forms.Held = manning (in_condition b.set (held_back b.set.card b.set.condition b.permit)) (back_or (back_answer b.set.card b.set.condition b.permit) b.permit)
 call_after b forms.Cancel = moved b (cancelled b.set.condition)
 call_after b (forms.Slot h) = moved b (slotted (script_meaning b.set.plan) b.set.card b.set.condition h)
 
--- the parts that a make line names
-abbrev pub card_of : MakeForm → Card
-card_of f = record { address = f.address; nr = f.nr; tc = f.tc; ts = f.ts; tj = f.tj; nw = f.nw }
-
-abbrev pub source_of : Draws → ListSource FewNumbers
-source_of d = list_from (record { numbers = d.numbers; count = d.count })
-
-abbrev pub plan_of : MakeForm → MaskPlan
-plan_of f = record { mask = f.mask; value = f.value }
-
+-- the set that a make line asks for, or its refusal
 abbrev pub made_by : MakeForm → Result ScriptSet (NotMade (ListSource FewNumbers) MaskPlan)
-made_by f = make_answer (card_of f) f.channel (source_of f.draws) (plan_of f)
+made_by f = make_answer f.card f.channel (list_from f.draws) f.plan
 
 -- a bare bench gets a set, or a refusal
 abbrev pub made_or : Result ScriptSet (NotMade (ListSource FewNumbers) MaskPlan) → Answer
 made_or (Ok s) = Done None
-made_or (Err x) = refused_by x.refusal
+made_or (Err x) = Refused x.refusal
 
 abbrev pub manned_by : Result ScriptSet (NotMade (ListSource FewNumbers) MaskPlan) → Option Manning
 manned_by (Ok s) = Some (manning s None)

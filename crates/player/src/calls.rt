@@ -1,110 +1,91 @@
-// The calls that a script makes of its set, and how each answer is told.
+// The calls that a script makes of the set on the bench, and how each is answered.
 ghost use Rattle.std.specs.Prelude.{◌≡◌, None};
-ghost use Rattle.access.specs.Sets.{in_condition};
-ghost use Rattle.rules.specs.Calls.{tune_answer, tuned, begin_answer, begun, back_answer, sent_back, held_back, cancel_answer, cancelled, slot_answer, slotted};
-ghost use Rattle.player.specs.Answers.{refused_by, done_or, plain_or, end_or, heard_or, service_of, script_meaning};
+ghost use Rattle.script.specs.declared.form.Form.TheVariants.{Take, Sent, Held};
+ghost use Rattle.player.specs.Answers.{told, put_answer, call_answer, call_after};
+ghost use Rattle.player.specs.Permits.{kept_address};
 
-use crate::manned::ScriptSet;
+use crate::manned::Manned;
 use access::permit::{Kept, Permit};
-use parts::choice::AnyService;
 use printing::answer::Answer;
-use script::form::ServiceName;
-use signalling::content::Heard;
+use script::fault::Fault;
+use script::form::Form;
 use signalling::refusal::Refusal;
+use std::mem::replace;
 
-// A refusal by its number.
-pub(crate) fn refused(refusal: Refusal) -> Answer
-    ensures { result ≡ refused_by refusal }
+// Answers the return of a permit. One that was refused goes into the place that it left empty.
+fn put_back(place: &mut Permit, back: Result<(), Kept>) -> Result<Answer, Refusal>
+    requires { place.old.address ≡ None }
+    ensures answer { told result ≡ put_answer back }
+    ensures after { place.new.address ≡ kept_address back }
 {
-    Answer::Refused {
-        number: refusal.number(),
-    }
-}
-
-fn service_of(name: ServiceName) -> AnyService
-    ensures { result ≡ service_of name }
-{
-    match name {
-        ServiceName::Rqs => AnyService::Rqs,
-        ServiceName::Rqr => AnyService::Rqr,
-        ServiceName::Rqe => AnyService::Rqe,
-    }
-}
-
-pub(crate) fn tune(set: &mut ScriptSet, channel: u32) -> Answer
-    ensures answer { result ≡ done_or (tune_answer set.old.condition channel) }
-    ensures after { set.new ≡ in_condition set.old (tuned set.old.condition channel) }
-{
-    match set.tune(channel) {
-        Ok(end) => Answer::Done { end },
-        Err(refusal) => refused(refusal),
-    }
-}
-
-pub(crate) fn begin(set: &mut ScriptSet, name: ServiceName) -> Answer
-    ensures answer { result ≡ plain_or (begin_answer set.old.condition) }
-    ensures after { set.new ≡ in_condition set.old (begun set.old.condition (service_of name)) }
-{
-    match set.begin(service_of(name)) {
-        Ok(()) => Answer::Done { end: None },
-        Err(refusal) => refused(refusal),
-    }
-}
-
-pub(crate) fn cancel(set: &mut ScriptSet) -> Answer
-    ensures answer { result ≡ end_or (cancel_answer set.old.condition) }
-    ensures after { set.new ≡ in_condition set.old (cancelled set.old.condition) }
-{
-    match set.cancel() {
-        Ok(end) => Answer::Done { end: Some(end) },
-        Err(refusal) => refused(refusal),
-    }
-}
-
-pub(crate) fn hear(set: &mut ScriptSet, heard: &Heard) -> Answer
-    ensures answer { result ≡ heard_or (slot_answer (script_meaning set.old.plan) set.old.card set.old.condition heard.now) }
-    ensures after { set.new ≡ in_condition set.old (slotted (script_meaning set.old.plan) set.old.card set.old.condition heard.now) }
-{
-    match set.slot(heard) {
-        Ok(told) => Answer::Heard {
-            state: told.state,
-            ready: told.ready,
-            end: told.end,
-        },
-        Err(refusal) => refused(refusal),
-    }
-}
-
-// An empty permit brought back as sent.
-pub(crate) fn send_empty(set: &mut ScriptSet) -> Answer
-    ensures answer { result ≡ plain_or (back_answer set.old.card set.old.condition None) }
-    ensures after { set.new ≡ in_condition set.old (sent_back set.old.card set.old.condition None) }
-{
-    match set.sent(Permit::empty()) {
-        Ok(()) => Answer::Done { end: None },
-        Err(kept) => {
-            let Kept {
-                refusal,
-                permit: _empty,
-            } = kept;
-            refused(refusal)
+    match back {
+        Ok(()) => Ok(Answer::Done { end: None }),
+        Err(Kept { refusal, permit }) => {
+            *place = permit;
+            Err(refusal)
         }
     }
 }
 
-// An empty permit brought back unused.
-pub(crate) fn hold_empty(set: &mut ScriptSet) -> Answer
-    ensures answer { result ≡ plain_or (back_answer set.old.card set.old.condition None) }
-    ensures after { set.new ≡ in_condition set.old (held_back set.old.card set.old.condition None) }
-{
-    match set.held(Permit::empty()) {
-        Ok(()) => Answer::Done { end: None },
-        Err(kept) => {
-            let Kept {
-                refusal,
-                permit: _empty,
-            } = kept;
-            refused(refusal)
+impl Manned {
+    // Takes a permit from the set; one that is handed over goes into the place of the empty one.
+    fn take(&mut self) -> Answer
+        ensures answer { result ≡ call_answer self.old Take }
+        ensures after { self.new ≡ call_after self.old Take }
+    {
+        let permit = self.set.take();
+        match permit.address() {
+            Some(_) => {
+                self.permit = permit;
+                Answer::Done { end: None }
+            }
+            None => Answer::Empty,
         }
+    }
+
+    // Brings the permit back as sent.
+    fn send(&mut self) -> Result<Answer, Refusal>
+        ensures answer { told result ≡ call_answer self.old Sent }
+        ensures after { self.new ≡ call_after self.old Sent }
+    {
+        let back = self.set.sent(replace(&mut self.permit, Permit::empty()));
+        put_back(&mut self.permit, back)
+    }
+
+    // Brings the permit back unused.
+    fn hold(&mut self) -> Result<Answer, Refusal>
+        ensures answer { told result ≡ call_answer self.old Held }
+        ensures after { self.new ≡ call_after self.old Held }
+    {
+        let back = self.set.held(replace(&mut self.permit, Permit::empty()));
+        put_back(&mut self.permit, back)
+    }
+
+    // What a form is answered, or why its call is refused.
+    fn call(&mut self, form: &Form) -> Result<Answer, Refusal>
+        ensures answer { told result ≡ call_answer self.old form.now }
+        ensures after { self.new ≡ call_after self.old form.now }
+    {
+        match form {
+            Form::Make(_) => Ok(Answer::Bad(Fault::OutOfTurn)),
+            Form::Tune { channel } => self.set.tune(*channel).map(|end| Answer::Done { end }),
+            Form::Begin { service } => self
+                .set
+                .begin(*service)
+                .map(|()| Answer::Done { end: None }),
+            Form::Take => Ok(self.take()),
+            Form::Sent => self.send(),
+            Form::Held => self.hold(),
+            Form::Cancel => self.set.cancel().map(|end| Answer::Done { end: Some(end) }),
+            Form::Slot(heard) => self.set.slot(heard).map(Answer::Heard),
+        }
+    }
+
+    // A form for a set: a refusal is an answer as well.
+    pub(crate) fn turn(&mut self, form: &Form) -> Answer
+        ensures answer { result ≡ call_answer self.old form.now }
+        ensures after { self.new ≡ call_after self.old form.now }
+    {
+        self.call(form).unwrap_or_else(Answer::Refused)
     }
 }

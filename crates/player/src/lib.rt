@@ -1,9 +1,7 @@
+// A whole script, played line by line to a set on a bench.
 #![tactic(auto)]
 
-pub mod bench;
 pub mod calls;
-pub mod keyed;
-pub mod keyed_turns;
 pub mod manned;
 pub mod play;
 pub mod turns;

@@ -1,46 +1,46 @@
 // A whole script.
-ghost use Rattle.std.specs.Prelude.{◌≡◌, ◌+◌, ◌-◌, ◌≤◌, ◌++◌, length, take, drop, IfOk, None, string_bytes, OnOk};
-ghost use Rattle.player.specs.Lines.{lines, first_line, behind_line};
+ghost use Rattle.std.specs.Prelude.{◌≡◌, ◌==◌, ◌++◌, IfOk, None, string_bytes, OnOk};
+ghost use Rattle.std.specs.List.{position, before_first, after_first};
+ghost use Rattle.player.specs.Lines.{lines};
 ghost use Rattle.player.specs.Playing.{played_on, played};
 
-use crate::bench::Bench;
+use crate::turns::answer;
 use printing::answer::Answer;
 use printing::append::append;
 use script::fault::Fault;
 use std::alloc::Global;
 use std::fmt;
 
-// Where the line that begins at a place ends: at its line end, or at the end of the script.
-fn line_end(script: &[u8], from: usize) -> usize
-    ensures within { from ≤ length script.now → result ≤ length script.now }
-    ensures onward { from ≤ result }
-    ensures line { first_line (drop from script.now) ≡ take (result - from) (drop from script.now) }
-    ensures behind { behind_line (drop from script.now) ≡ drop (result + 1) script.now }
+// Where the first line of a script ends, unless it ends with the script.
+fn line_end(script: &[u8]) -> Option<usize>
+    ensures { result ≡ position (λ b. b == 10) script.now }
 {
-    let mut end = from;
-    while end < script.len() && script[end] != 10 {
-        end += 1;
-    }
-    end
+    script.iter().position(|b| *b == b'\n')
 }
 
-// Plays a script to a bare bench, and prints a line for each of its lines.
+// The first line of a script, without its line end, and what stands behind it.
+fn split_line(script: &[u8]) -> (&[u8], &[u8])
+    ensures line { result.0.now ≡ before_first (λ b. b == 10) script.now }
+    ensures behind { result.1.now ≡ after_first (λ b. b == 10) script.now }
+{
+    match line_end(script) {
+        Some(end) => (&script[..end], &script[end + 1..]),
+        None => (script, &[]),
+    }
+}
+
+// Plays a script to a bare bench, and prints a line for each of its lines. It cuts by `split_line`: over
+// `split_inclusive`, tried, each cut had goals about the meaning of its closure, and `split_line` is proved alone.
 fn play_lines(printed: &mut String, script: &[u8]) -> fmt::Result
     ensures { OnOk result (string_bytes printed.new ≡ string_bytes printed.old ++ played_on None (lines script.now)) }
 {
-    let mut bench = Bench::Bare;
-    let mut at = 0;
-    while at < script.len() {
-        let end = line_end(script, at);
-        let (next, answer) = bench.answer(&script[at..end]);
-        bench = next;
-        if let Err(e) = append(printed, &answer) {
-            bench.clear();
-            return Err(e);
-        }
-        at = end + 1;
+    let mut bench = None;
+    let mut rest = script;
+    while !rest.is_empty() {
+        let (line, behind) = split_line(rest);
+        append(printed, &answer(&mut bench, line))?;
+        rest = behind;
     }
-    bench.clear();
     Ok(())
 }
 

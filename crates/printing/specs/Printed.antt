@@ -1,6 +1,7 @@
 -- The printed form of an answer, as bytes.
 use Rattle.std.specs.Prelude.{ℕ, Bool, true, false, List, [], ◌∷◌, ◌++◌, Some, None, codes, decimal, Option}
-use Rattle.script.specs.Faults.{number_of, place_of}
+use Rattle.signalling.specs.Refusals.{number_of}
+use Rattle.script.specs.Faults as faults
 use Rattle.parts.specs.declared.verdict.EndWord.{EndWord}
 use Rattle.parts.specs.declared.verdict.EndWord.TheVariants.{NoAccess, Unknown, Lost, Withdrawn, Denied, Overload, Accepted, Unavailable, Granted}
 use Rattle.rules.specs.declared.request.End.{End}
@@ -45,10 +46,10 @@ ready_part false = []
 -- an answer, without the line end
 abbrev pub answer_form : Answer → List ℕ
 answer_form (Done end) = codes "(done" ++ last_part end
-answer_form (Heard state ready end) = codes "(heard " ++ (state_word state ++ (ready_part ready ++ last_part end))
+answer_form (Heard t) = codes "(heard " ++ (state_word t.state ++ (ready_part t.ready ++ last_part t.end))
 answer_form Empty = codes "(none)"
-answer_form (Refused number) = codes "(no " ++ (decimal number ++ codes ")")
-answer_form (Bad fault) = codes "(bad " ++ (decimal (number_of fault) ++ (codes " " ++ (decimal (place_of fault) ++ codes ")")))
+answer_form (Refused r) = codes "(no " ++ (decimal (number_of r) ++ codes ")")
+answer_form (Bad fault) = codes "(bad " ++ (decimal (faults.number_of fault) ++ (codes " " ++ (decimal (faults.place_of fault) ++ codes ")")))
 
 -- an answer's line with its line end
 abbrev pub answer_line : Answer → List ℕ

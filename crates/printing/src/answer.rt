@@ -1,27 +1,19 @@
 // The answers to the lines of a script.
-use rules::request::End;
-use rules::station::State;
+use rules::request::{End, Told};
 use script::fault::Fault;
+use signalling::refusal::Refusal;
 
 // The answer to one line.
 #[derive(Clone, Copy)]
 pub enum Answer {
     // the call was granted; a request may have ended by it
-    Done {
-        end: Option<End>,
-    },
-    // a slot was heard: the state after it, whether a permit is ready, and the end of a request, if it came
-    Heard {
-        state: State,
-        ready: bool,
-        end: Option<End>,
-    },
+    Done { end: Option<End> },
+    // a slot was heard, and this was told of it
+    Heard(Told),
     // there was no permit to take
     Empty,
     // the call was refused
-    Refused {
-        number: u32,
-    },
+    Refused(Refusal),
     // the line is no form, or out of turn
     Bad(Fault),
 }

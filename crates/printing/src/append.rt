@@ -9,7 +9,6 @@ use std::fmt;
 pub fn append(printed: &mut String, answer: &Answer) -> fmt::Result
     ensures { OnOk result (string_bytes printed.new ≡ string_bytes printed.old ++ answer_line answer.now) }
 {
-    let answer = *answer;
     writeln!(printed, "{answer}")?;
     Ok(())
 }

@@ -1,14 +1,15 @@
 // The printed form of an answer.
 ghost use Rattle.std.specs.Prelude.{◌≡◌, Some};
-ghost use Rattle.printing.specs.Printed.{end_word, state_word, end_form, answer_form};
+ghost use Rattle.printing.specs.Printed.{end_word, state_word, last_part, answer_form};
 
 use crate::answer::Answer;
 use parts::verdict::EndWord;
-use rules::request::End;
+use rules::request::{End, Told};
 use rules::station::State;
 use std::fmt;
 
-// The word of an end as it is printed.
+// The word of an end as it is printed. This and the next are no `Display` of their types, which stand below, in crates
+// that know nothing of printed lines.
 pub fn end_text(word: EndWord) -> &'static str
     ensures { result.now ≡ end_word word }
 {
@@ -37,20 +38,28 @@ pub fn state_text(state: State) -> &'static str
     }
 }
 
-// An end that is to be printed.
+// How an answer closes: with the end of a request, where one ended.
 #[derive(Clone, Copy)]
-struct ShownEnd {
-    end: End,
+struct Closing {
+    end: Option<End>,
 }
 
-impl fmt::Display for ShownEnd {
-    ghost output = { λ e. Some (end_form e.end) };
+impl fmt::Display for Closing {
+    ghost output = { λ c. Some (last_part c.end) };
 
     fn fmt<W: fmt::Write>(&self, f: &mut fmt::Formatter<W>) -> fmt::Result {
-        let word = end_text(self.end.word);
-        let transmissions = self.end.transmissions;
-        let age = self.end.age;
-        write!(f, "(end {word} {transmissions} {age})")
+        match self.end {
+            None => write!(f, ")"),
+            Some(end) => {
+                let End {
+                    word,
+                    transmissions,
+                    age,
+                } = end;
+                let word = end_text(word);
+                write!(f, " (end {word} {transmissions} {age}))")
+            }
+        }
     }
 }
 
@@ -59,35 +68,19 @@ impl fmt::Display for Answer {
 
     fn fmt<W: fmt::Write>(&self, f: &mut fmt::Formatter<W>) -> fmt::Result {
         match *self {
-            Answer::Done { end } => match end {
-                None => write!(f, "(done)"),
-                Some(end) => {
-                    let end = ShownEnd { end };
-                    write!(f, "(done {end})")
-                }
-            },
-            Answer::Heard { state, ready, end } => {
+            Answer::Done { end } => write!(f, "(done{}", Closing { end }),
+            Answer::Heard(Told { state, ready, end }) => {
                 let state = state_text(state);
-                match (ready, end) {
-                    (false, None) => write!(f, "(heard {state})"),
-                    (true, None) => write!(f, "(heard {state} (open))"),
-                    (false, Some(end)) => {
-                        let end = ShownEnd { end };
-                        write!(f, "(heard {state} {end})")
-                    }
-                    (true, Some(end)) => {
-                        let end = ShownEnd { end };
-                        write!(f, "(heard {state} (open) {end})")
-                    }
+                let closing = Closing { end };
+                if ready {
+                    write!(f, "(heard {state} (open){closing}")
+                } else {
+                    write!(f, "(heard {state}{closing}")
                 }
             }
             Answer::Empty => write!(f, "(none)"),
-            Answer::Refused { number } => write!(f, "(no {number})"),
-            Answer::Bad(fault) => {
-                let number = fault.number();
-                let place = fault.place();
-                write!(f, "(bad {number} {place})")
-            }
+            Answer::Refused(refusal) => write!(f, "(no {})", refusal.number()),
+            Answer::Bad(fault) => write!(f, "(bad {} {})", fault.number(), fault.place()),
         }
     }
 }

@@ -1,26 +1,31 @@
 // Whether a frame that runs covers the next return slot.
-ghost use Rattle.std.specs.Prelude.{◌≡◌, ◌&&◌, nat_lt};
-ghost use Rattle.rules.specs.Frames.{slots_back, covered_from};
+ghost use Rattle.std.specs.Prelude.{◌≡◌};
+ghost use Rattle.rules.specs.Frames.{slots_back, covers, covered};
 
 use parts::service::Service;
-use rules::station::Mark;
+use rules::station::{Frames, Mark};
 
-// Whether the record at an index is of a frame that covers the next return slot and invites the service.
-fn covers<S: Service>(service: &S, place: u32, index: usize, mark: Mark) -> bool
-    ensures { result ≡ (S.invites service.now mark.function && nat_lt (slots_back place index) mark.slots) }
+// How many slots before the newest one the record at an index was heard.
+fn slots_back(place: u32, index: usize) -> usize
+    ensures { result ≡ slots_back place index }
 {
-    let back = (place as usize % 32 + 32).saturating_sub(index) % 32;
-    service.is_invited(mark.function) && back < mark.slots as usize
+    (place as usize % 32 + 32).saturating_sub(index) % 32
+}
+
+// Whether the record of the slot so many back is of a frame that covers the next return slot and invites the service.
+fn covers<S: Service>(service: &S, back: usize, mark: Option<Mark>) -> bool
+    ensures { result ≡ covers (S.invites service.now) back mark }
+{
+    mark.is_some_and(|mark| service.is_invited(mark.function) && back < mark.slots as usize)
 }
 
 // Whether one of the records does.
-pub(crate) fn is_covered<S: Service>(service: &S, place: u32, marks: &[Mark]) -> bool
-    ensures { result ≡ covered_from (S.invites service.now) place 0 marks.now }
+pub(crate) fn is_covered<S: Service>(service: &S, frames: &Frames) -> bool
+    ensures { result ≡ covered (S.invites service.now) frames.now }
 {
-    for (index, mark) in marks.iter().enumerate() {
-        if covers(service, place, index, *mark) {
-            return true;
-        }
-    }
-    false
+    frames.marks.iter().enumerate().any(|(index, mark)| covers(
+        service,
+        slots_back(frames.place, index),
+        *mark,
+    ))
 }

@@ -1,11 +1,11 @@
 // What a heard slot does to a request, step by step, before a slot is chosen for it.
 ghost use Rattle.std.specs.Prelude.{◌≡◌};
-ghost use Rattle.rules.specs.Jobs.{end_of, passed, lapsed, lost, aged, judged, answered, timed, tried, waited, through};
+ghost use Rattle.rules.specs.Jobs.{end_of, passed, lapsed, lost, aged, answered, tried, waited, through};
 
 use parts::service::Service;
 use parts::verdict::{EndWord, Verdict};
 use rules::card::Card;
-use rules::request::{Choice, End, Job, Live, Progress};
+use rules::request::{Choice, End, Job, Live};
 use signalling::content::Content;
 
 // The end of a request: its word, its transmissions and its age.
@@ -24,39 +24,28 @@ fn pass(choice: Choice) -> Choice
     ensures { result ≡ passed choice }
 {
     match choice {
-        Choice::Unchosen | Choice::Ready => Choice::Unchosen,
         Choice::Ahead(slots) => Choice::Ahead(slots.saturating_sub(1)),
-        Choice::Out => Choice::Out,
+        Choice::Ready => Choice::Unchosen,
+        other => other,
     }
 }
 
-fn lapse<S: Drop>(job: Job<S>) -> Job<S>
-    ensures { result ≡ lapsed job }
+// A request in try as the next slot is heard: its choice passes.
+fn lapse<S>(job: &mut Job<S>)
+    ensures { job.new ≡ lapsed job.old }
 {
-    match job {
-        Job::Free => Job::Free,
-        Job::Trying {
-            live,
-            window,
-            choice,
-        } => Job::Trying {
-            live,
-            window,
-            choice: pass(choice),
-        },
-        Job::Waiting { live } => Job::Waiting { live },
+    if let Job::Trying { choice, .. } = job {
+        *choice = pass(*choice);
     }
 }
 
 // The end of a stay ends an open request as lost.
-pub fn lose<S: Drop>(job: Job<S>) -> Progress<S>
+pub fn lose<S: Drop>(job: Job<S>) -> Result<Job<S>, End>
     ensures { result ≡ lost job }
 {
     match job {
-        Job::Free => Progress::Going(Job::Free),
-        Job::Trying { live, .. } | Job::Waiting { live } => {
-            Progress::Ended(end_of(EndWord::Lost, live))
-        }
+        Job::Free => Ok(Job::Free),
+        Job::Trying { live, .. } | Job::Waiting { live } => Err(end_of(EndWord::Lost, live)),
     }
 }
 
@@ -65,140 +54,94 @@ fn age<S: Drop>(live: Live<S>) -> Live<S>
     ensures { result ≡ aged live }
 {
     Live {
-        service: live.service,
         age: live.age.saturating_add(1),
-        sends: live.sends,
         since: live.since.saturating_add(1),
+        ..live
     }
 }
 
-// What a verdict makes of a request in try.
-fn judge_trying<S: Drop>(
-    verdict: Verdict,
-    live: Live<S>,
-    window: u32,
-    choice: Choice,
-) -> Progress<S>
-    ensures { result ≡ judged verdict live (Job.Trying live window choice) }
+// An open request ages, and is judged: an interim answer has it wait, an end ends it.
+fn judge<S: Drop>(verdict: Verdict, job: Job<S>) -> Result<Job<S>, End>
+    ensures { result ≡ answered (λ _. verdict) job }
 {
-    match verdict {
-        Verdict::Nothing => Progress::Going(Job::Trying {
-            live,
+    match (job, verdict) {
+        (Job::Free, _) => Ok(Job::Free),
+        // two arms: one pattern for both, beside the word, is not taken for a job that is moved out of
+        (Job::Trying { live, .. }, Verdict::End(word)) => Err(end_of(word, age(live))),
+        (Job::Waiting { live }, Verdict::End(word)) => Err(end_of(word, age(live))),
+        (
+            Job::Trying {
+                live,
+                window,
+                choice,
+            },
+            Verdict::Nothing,
+        ) => Ok(Job::Trying {
+            live: age(live),
             window,
             choice,
         }),
-        Verdict::Interim => Progress::Going(Job::Waiting { live }),
-        Verdict::End(word) => Progress::Ended(end_of(word, live)),
-    }
-}
-
-// What a verdict makes of a request in wait.
-fn judge_waiting<S: Drop>(verdict: Verdict, live: Live<S>) -> Progress<S>
-    ensures { result ≡ judged verdict live (Job.Waiting live) }
-{
-    match verdict {
-        Verdict::Nothing | Verdict::Interim => Progress::Going(Job::Waiting { live }),
-        Verdict::End(word) => Progress::Ended(end_of(word, live)),
+        (Job::Trying { live, .. } | Job::Waiting { live }, _) => Ok(Job::Waiting {
+            live: age(live),
+        }),
     }
 }
 
 // An open request ages, and heeds what the content means to its service.
-fn answer<S: Service + Drop>(job: Job<S>, content: &Content, own: u32) -> Progress<S>
+fn answer<S: Service + Drop>(job: Job<S>, content: &Content, own: u32) -> Result<Job<S>, End>
     ensures { result ≡ answered (λ s. S.verdict s content.now own) job }
 {
-    match job {
-        Job::Free => Progress::Going(Job::Free),
-        Job::Trying {
-            live,
-            window,
-            choice,
-        } => {
-            let verdict = live.service.judge(content, own);
-            judge_trying(verdict, age(live), window, choice)
-        }
-        Job::Waiting { live } => {
-            let verdict = live.service.judge(content, own);
-            judge_waiting(verdict, age(live))
-        }
-    }
+    let verdict = match &job {
+        Job::Free => Verdict::Nothing,
+        Job::Trying { live, .. } | Job::Waiting { live } => live.service.judge(content, own),
+    };
+    judge(verdict, job)
 }
 
-// The access time-out TC: a request of which nothing was sent ends, another waits.
-fn time<S: Drop>(tc: u32, live: Live<S>, window: u32, choice: Choice) -> Progress<S>
-    ensures { result ≡ timed tc live window choice }
-{
-    if live.age >= tc {
-        if live.sends == 0 {
-            Progress::Ended(end_of(EndWord::NoAccess, live))
-        } else {
-            Progress::Going(Job::Waiting { live })
-        }
-    } else {
-        Progress::Going(Job::Trying {
-            live,
-            window,
-            choice,
-        })
-    }
-}
-
-// A request in try: once its window is over with NR transmissions made it waits.
-fn try_on<S: Drop>(card: Card, job: Job<S>) -> Progress<S>
+// A request in try: once its window is over with NR transmissions made it waits. At the access time-out TC one of
+// which nothing was sent ends, and another waits.
+fn try_on<S: Drop>(card: Card, job: Job<S>) -> Result<Job<S>, End>
     ensures { result ≡ tried card job }
 {
     match job {
+        Job::Trying { live, window, .. } if window <= 1 && live.sends >= card.nr => {
+            Ok(Job::Waiting { live })
+        }
+        Job::Trying { live, .. } if live.age >= card.tc && live.sends == 0 => {
+            Err(end_of(EndWord::NoAccess, live))
+        }
+        Job::Trying { live, .. } if live.age >= card.tc => Ok(Job::Waiting { live }),
         Job::Trying {
             live,
             window,
             choice,
-        } => {
-            let window = window.saturating_sub(1);
-            if window == 0 && live.sends >= card.nr {
-                Progress::Going(Job::Waiting { live })
-            } else {
-                time(card.tc, live, window, choice)
-            }
-        }
-        Job::Free => Progress::Going(Job::Free),
-        Job::Waiting { live } => Progress::Going(Job::Waiting { live }),
+        } => Ok(Job::Trying {
+            live,
+            window: window.saturating_sub(1),
+            choice,
+        }),
+        other => Ok(other),
     }
 }
 
 // A request in wait ends as unknown once TJ slots were heard since the last transmission.
-fn wait<S: Drop>(card: Card, job: Job<S>) -> Progress<S>
+fn wait<S: Drop>(card: Card, job: Job<S>) -> Result<Job<S>, End>
     ensures { result ≡ waited card job }
 {
     match job {
-        Job::Waiting { live } => {
-            if live.since >= card.tj {
-                Progress::Ended(end_of(EndWord::Unknown, live))
-            } else {
-                Progress::Going(Job::Waiting { live })
-            }
-        }
-        Job::Free => Progress::Going(Job::Free),
-        Job::Trying {
-            live,
-            window,
-            choice,
-        } => Progress::Going(Job::Trying {
-            live,
-            window,
-            choice,
-        }),
+        Job::Waiting { live } if live.since >= card.tj => Err(end_of(EndWord::Unknown, live)),
+        going => Ok(going),
     }
 }
 
 // A request through a slot that leaves the set active: it lapses, ages, heeds, tries and waits.
-pub fn go_through<S: Service + Drop>(card: Card, job: Job<S>, content: &Content) -> Progress<S>
+pub fn go_through<S: Service + Drop>(
+    card: Card,
+    mut job: Job<S>,
+    content: &Content,
+) -> Result<Job<S>, End>
     ensures { result ≡ through (λ s. S.verdict s content.now card.address) card job }
 {
-    let job = match answer(lapse(job), content, card.address) {
-        Progress::Going(job) => job,
-        Progress::Ended(end) => return Progress::Ended(end),
-    };
-    match try_on(card, job) {
-        Progress::Going(job) => wait(card, job),
-        Progress::Ended(end) => Progress::Ended(end),
-    }
+    lapse(&mut job);
+    wait(card, try_on(card, answer(job, content, card.address)?)?)
 }

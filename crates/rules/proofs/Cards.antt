@@ -1,8 +1,8 @@
--- What a card that is not refused says of its numbers.
-use Rattle.std.proofs.Common.{◌≡◌, ℕ, ◌≤◌, None, arith}
+-- What a card that is granted says of its numbers.
+use Rattle.std.proofs.Common.{◌≡◌, ℕ, ◌≤◌, Ok, arith}
 use Rattle.std.proofs.lemmas.Bool.Decides.{nat_tests}
 use Rattle.rules.specs.declared.card.Card.{Card}
-use Rattle.rules.specs.Cards.{card_refusal}
+use Rattle.rules.specs.Cards.{card_judged}
 
 pub record Ranged (card : Card) : Type 0 where
   pub nr_least : 1 ≤ card.nr
@@ -14,7 +14,7 @@ pub record Ranged (card : Card) : Type 0 where
   pub tj_most : card.tj ≤ 60000
   pub nw_most : card.nw ≤ 15
 
-pub ranged : (card : Card) (channel : ℕ) → card_refusal card channel ≡ None → Ranged card
+pub ranged : (card : Card) (channel : ℕ) → card_judged card channel ≡ Ok tt → Ranged card
 ranged card channel granted = record {
   nr_least = grind (arith, nat_tests);
   nr_most = grind (arith, nat_tests);

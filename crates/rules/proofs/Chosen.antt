@@ -1,6 +1,7 @@
 -- The slot that a request chooses is within its reach, and a permit is ready only for one that is open.
-use Rattle.std.proofs.Common.{◌≡◌, ℕ, ◌<◌, Bool, true, false, cond, ◌&&◌, eqb, List, ◌∷◌, sym, refl, ap, ◌∙◌, subst, arith, ltb-true, eqb-true}
-use borrow.Author.Tests.{eqb-false, clash}
+use Rattle.std.proofs.Common.{◌≡◌, ℕ, ◌<◌, Bool, true, false, cond, eqb, List, ◌∷◌, sym, refl, ap, ◌∙◌, subst, arith, ltb-true, eqb-true}
+use Rattle.std.proofs.lemmas.Bool.{and_parts}
+use borrow.Author.Tests.{eqb-false}
 use Rattle.signalling.specs.declared.content.Heard.{Heard}
 use Rattle.signalling.specs.declared.content.Noted.{Noted}
 use Rattle.signalling.specs.Division.{admits}
@@ -20,17 +21,12 @@ use Rattle.rules.proofs.Stays.{StayIs}
 use Rattle.rules.proofs.Tables.{covered-back}
 use Rattle.rules.proofs.Tries.{ReachedBy, ChoiceIs, MidChoice, TryIs, WaitIs, LateTry, LastJob}
 
-both_true : (a b : Bool) → (a && b) ≡ true → (a ≡ true) × (b ≡ true)
-both_true true true e = (refl, refl)
-both_true true false e = absurd (clash e)
-both_true false b e = absurd (clash e)
-
 module _ {D S : Type 0} (m : Meaning D S) (lawful : Lawful m) (card : Card) (range : Ranged card) (h : Heard) (hs : List Heard) (st : Stay) (is : StayIs card st (h ∷ hs)) where
   -- a slot drawn from the frame marked now
   drawn-reached : (source : D) (l : Live S) (window : ℕ) (c : Choice) (w : ℕ) → LateTry m card range l window c (h ∷ hs) w → window ≡ 0 → draws m card.address l.service st (marked h.content) ≡ true → MidChoice m card range l window (h ∷ hs) (Ahead (m.ready source (marked h.content)))
   drawn-reached source l window c w late over e =
-      let slots = both_true _ _ e in
-      let suits = both_true _ _ slots.1 in
+      let slots = and_parts _ _ e in
+      let suits = and_parts _ _ slots.1 in
       let some : 0 < marked h.content = ltb-true 0 (marked h.content) slots.0 in
       let inside = lawful.within source (marked h.content) some (marked_most h.content) in (
         over,
@@ -42,7 +38,7 @@ module _ {D S : Type 0} (m : Meaning D S) (lawful : Lawful m) (card : Card) (ran
           since_begin = omega (arith, late.grown);
           covers = omega (arith, inside.1);
           inviting = ap (λ (n : Noted). m.invites l.service n.function) (sym is.notes) ∙ suits.0;
-          admitted = ap (λ (n : Noted). admits (m.emergency l.service) n.qualifier n.address card.address) (sym is.notes) ∙ suits.1;
+          admitted = ap (λ (n : Noted). admits (m.emergency l.service) n.division card.address) (sym is.notes) ∙ suits.1;
           fresh = λ sent. omega (arith, late.some);
         },
       )
@@ -50,8 +46,8 @@ module _ {D S : Type 0} (m : Meaning D S) (lawful : Lawful m) (card : Card) (ran
   -- the next slot by the first-try option: nothing was sent yet
   first-reached : (l : Live S) (window : ℕ) (c : Choice) (w : ℕ) → LateTry m card range l window c (h ∷ hs) w → window ≡ 0 → first_try m card.address l st ≡ true → MidChoice m card range l window (h ∷ hs) (Ahead 1)
   first-reached l window c w late over e =
-      let first = both_true _ _ e in
-      let rest = both_true _ _ first.1 in
+      let first = and_parts _ _ e in
+      let rest = and_parts _ _ first.1 in
       let age = eqb-true l.age 1 first.0 in
       let back = covered-back card.nw st.frames (h ∷ hs) is.frames (m.invites l.service) rest.1 in (
         over,
@@ -63,7 +59,7 @@ module _ {D S : Type 0} (m : Meaning D S) (lawful : Lawful m) (card : Card) (ran
           since_begin = omega (arith, late.grown);
           covers = back.covers;
           inviting = back.inviting;
-          admitted = ap (λ (n : Noted). admits (m.emergency l.service) n.qualifier n.address card.address) (sym is.notes) ∙ rest.0;
+          admitted = ap (λ (n : Noted). admits (m.emergency l.service) n.division card.address) (sym is.notes) ∙ rest.0;
           fresh = λ sent. absurd (omega (arith, late.older sent, late.some));
         },
       )

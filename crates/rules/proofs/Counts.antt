@@ -2,7 +2,6 @@
 use Rattle.std.proofs.Common.{◌≡◌, ℕ, ◌+◌, ◌<◌, ◌≤◌, List, [], ◌∷◌, unwrap_or, arith}
 use Rattle.std.proofs.lemmas.Bool.Decides.{nat_tests}
 use Rattle.signalling.specs.declared.content.Content.{Content}
-use Rattle.signalling.specs.declared.content.Content.TheVariants.{Deaf, Data, Aloha, Reply, Go, Ahy, Ahyq, Head, Mark, Bcast, Move, Other}
 use Rattle.signalling.specs.declared.content.Heard.{Heard}
 use Rattle.signalling.specs.declared.content.Noted.{Noted}
 use Rattle.signalling.specs.Reading.{marked, noted}
@@ -22,36 +21,14 @@ two_bit_most n = grind (arith, nat_tests)
 
 -- no content marks a frame of more than 32 slots
 pub marked_most : (content : Content) → marked content ≤ 32
-marked_most Deaf = omega arith
-marked_most (Data rsa mine) = omega arith
-marked_most (Aloha f n w m a) = four_bit_most n
-marked_most (Reply k q n f t) = four_bit_most n
-marked_most (Go t p ch n) = two_bit_most n
-marked_most (Ahy ad t) = omega arith
-marked_most (Ahyq i t) = omega arith
-marked_most (Head t) = omega arith
-marked_most Mark = omega arith
-marked_most Bcast = omega arith
-marked_most (Move m a ch) = omega arith
-marked_most Other = omega arith
+marked_most content = grind (arith, four_bit_most, two_bit_most)
 
 wait_most : (wt : ℕ) → wait_of wt ≤ 15
 wait_most wt = grind (arith, nat_tests)
 
 -- a delay that is noted, or else one of at most 15 slots, is at most 15 slots
 noted-wait : (content : Content) (n : Noted) → n.wait ≤ 15 → (unwrap_or (noted content) n).wait ≤ 15
-noted-wait Deaf n h = h
-noted-wait (Data rsa mine) n h = h
-noted-wait (Aloha f k w m a) n h = wait_most w
-noted-wait (Reply k q i f t) n h = h
-noted-wait (Go t p ch i) n h = h
-noted-wait (Ahy ad t) n h = h
-noted-wait (Ahyq i t) n h = h
-noted-wait (Head t) n h = h
-noted-wait Mark n h = h
-noted-wait Bcast n h = h
-noted-wait (Move m a ch) n h = h
-noted-wait Other n h = h
+noted-wait content n h = grind (arith, wait_most)
 
 -- the WAIT noted in a stay is at most 15 slots
 pub wait-small : (nw : ℕ) → nw ≤ 15 → (hs : List Heard) → (noted_in nw hs).wait ≤ 15

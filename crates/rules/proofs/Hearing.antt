@@ -1,6 +1,7 @@
 -- A heard slot keeps what holds of a set beside its history.
 use Rattle.std.proofs.Common.{◌≡◌, ℕ, ◌+◌, ◌<◌, Bool, true, false, cond, eqb, ◌⊎◌, List, ◌∷◌, is_some, Some, None, Ok, Err, Option, Result, unwrap_or, sym, refl, ap, ◌∙◌, subst, inl, inr, arith}
 use borrow.Author.Tests.{clash}
+use Rattle.std.specs.Result.{IfOk}
 use Rattle.signalling.specs.declared.content.Heard.{Heard}
 use Rattle.signalling.specs.declared.refusal.Refusal.{Refusal}
 use Rattle.signalling.specs.Range.{heard_in_range}
@@ -12,8 +13,6 @@ use Rattle.rules.specs.declared.request.End.{End}
 use Rattle.rules.specs.declared.request.Job.{Job}
 use Rattle.rules.specs.declared.request.Job.TheVariants.{Free, Trying, Waiting}
 use Rattle.rules.specs.declared.request.Live.{Live}
-use Rattle.rules.specs.declared.request.Progress.{Progress}
-use Rattle.rules.specs.declared.request.Progress.TheVariants.{Ended, Going}
 use Rattle.rules.specs.declared.station.State.{State}
 use Rattle.rules.specs.declared.station.Stay.{Stay}
 use Rattle.rules.specs.declared.station.Station.{Station}
@@ -29,8 +28,8 @@ use Rattle.rules.proofs.Cards.{Ranged}
 use Rattle.rules.proofs.Chosen.{DoneJob, chooses}
 use Rattle.rules.proofs.Counts.{raised-one}
 use Rattle.rules.proofs.Stays.{StayIs, PlaceIs, follows_as}
-use Rattle.rules.proofs.Tallies.{Tally, LiveBy, tally, Holds, Next, young_enough, try_young, wait-young, one-open}
-use Rattle.rules.proofs.Tries.{IfGoing, LastJob, try_through, wait-through}
+use Rattle.rules.proofs.Tallies.{Tally, LiveBy, tally, Holds, Next, young_enough, try_young, wait-young}
+use Rattle.rules.proofs.Tries.{LastJob, try_through, wait-through}
 
 -- the numbers of a history after one more granted slot call
 abbrev ticked : {S : Type 0} → Tally S → Presence → Option End → Tally S
@@ -48,14 +47,6 @@ ticked t p end = record {
   begun = t.begun;
   ended = cond (is_some end) (t.ended + 1) t.ended;
 }
-
-module _ {S : Type 0} where
-  -- a number that counts slots of an open request goes up, and else stands still
-  counted : (o : Option S) (s : S) (n : ℕ) → o ≡ Some s → cond (is_some o) (n + 1) n ≡ n + 1
-  counted o s n e = ap {B = ℕ} (λ (x : Option S). cond (is_some x) (n + 1) n) e
-
-  stood : (o : Option S) (n : ℕ) → o ≡ None → cond (is_some o) (n + 1) n ≡ n
-  stood o n e = ap {B = ℕ} (λ (x : Option S). cond (is_some x) (n + 1) n) e
 
 module _ {D S : Type 0} (m : Meaning D S) (lawful : Lawful m) (card : Card) (range : Ranged card) (t : Tally S) where
   -- a set that is not out agrees with the numbers of its history
@@ -78,9 +69,9 @@ module _ {D S : Type 0} (m : Meaning D S) (lawful : Lawful m) (card : Card) (ran
           job = refl;
           out = k.out ∙ r.not_out;
           permits = k.permits;
-          requests = omega (arith, k.requests, one-open m card range t l.service is.service);
+          requests = grind (arith, k.requests, is.service);
           most = k.most;
-          soon = omega (arith, counted t.request l.service t.age is.service, young_enough m card range l t is young);
+          soon = grind (arith, is.service, young_enough m card range l t is young);
         };
         fits = fits;
       }
@@ -90,7 +81,7 @@ module _ {D S : Type 0} (m : Meaning D S) (lawful : Lawful m) (card : Card) (ran
   idle-so p s s' source source' r place fits =
       let k = r.holds in
       record {
-        holds = record { place = place; job = k.job; out = k.out; permits = k.permits; requests = k.requests; most = k.most; soon = omega (arith, k.soon, stood t.request t.age k.job) };
+        holds = record { place = place; job = k.job; out = k.out; permits = k.permits; requests = k.requests; most = k.most; soon = grind (arith, k.soon, k.job) };
         fits = fits;
       }
 
@@ -102,18 +93,13 @@ module _ {D S : Type 0} (m : Meaning D S) (lawful : Lawful m) (card : Card) (ran
 
 -- no permit is out once a slot was heard
 next_not_out : (near free : Bool) (n : ℕ) → out_in (cond near (cond free Ready Unchosen) (Ahead n)) ≡ false
-next_not_out true true n = refl
-next_not_out true false n = refl
-next_not_out false free n = refl
+next_not_out near free n = grind arith
 
 drawn_not_out : (free d f : Bool) (n : ℕ) → out_in (permitted free (cond d (Ahead n) (cond f (Ahead 1) Unchosen))) ≡ false
-drawn_not_out free true f n = next_not_out _ free n
-drawn_not_out free false true n = next_not_out true free 1
-drawn_not_out free false false n = refl
+drawn_not_out free d f n = grind arith
 
 may_not_out : (free may d f : Bool) (n : ℕ) → out_in (permitted free (cond may (cond d (Ahead n) (cond f (Ahead 1) Unchosen)) Unchosen)) ≡ false
-may_not_out free true d f n = drawn_not_out free d f n
-may_not_out free false d f n = refl
+may_not_out free may d f n = grind arith
 
 module _ {D S : Type 0} (m : Meaning D S) (lawful : Lawful m) (card : Card) (range : Ranged card) (t : Tally S) (h : Heard) (st : Stay) (is : StayIs card st (h ∷ slots_of t.stay)) (channel : ℕ) where
   abbrev here : Station
@@ -138,15 +124,13 @@ module _ {D S : Type 0} (m : Meaning D S) (lawful : Lawful m) (card : Card) (ran
   older_so l live by young e =
       let age = raised-one l.age (omega (arith, young, range.tc_most, range.tj_most)) in
       let since = raised-one l.since (omega (arith, young, by.within, range.tc_most, range.tj_most)) in
-      let more = counted t.request l.service t.age by.service in
-      let later = counted t.request l.service t.since by.service in
       let same-age = ap (λ (x : Live S). x.age) e in
       let same-since = ap (λ (x : Live S). x.since) e in
       record {
         service = by.service ∙ ap (λ (x : Live S). Some x.service) (sym e);
-        age = omega (arith, age, more, same-age, by.age);
+        age = grind (arith, age, same-age, by.age, by.service);
         sends = ap (λ (x : Live S). x.sends) e ∙ by.sends;
-        since = omega (arith, since, later, same-since, by.since);
+        since = grind (arith, since, same-since, by.since, by.service);
         within = omega (arith, age, since, same-age, same-since, by.within);
       }
 
@@ -165,7 +149,7 @@ module _ {D S : Type 0} (m : Meaning D S) (lawful : Lawful m) (card : Card) (ran
           permits = k.permits;
           requests = k.requests;
           most = k.most;
-          soon = omega (arith, counted t.request l.service t.age by.service, young_enough m card range l t by young);
+          soon = grind (arith, by.service, young_enough m card range l t by young);
         };
         fits = fits-open l.service _ _ by.service (inl refl);
       }
@@ -179,15 +163,15 @@ module _ {D S : Type 0} (m : Meaning D S) (lawful : Lawful m) (card : Card) (ran
           permits = k.permits;
           requests = k.requests;
           most = k.most;
-          soon = omega (arith, counted t.request l.service t.age by.service, young_enough m card range l t by young);
+          soon = grind (arith, by.service, young_enough m card range l t by young);
         };
         fits = fits-open l.service _ _ by.service (inr refl);
       }
 
   -- an open request through the slot: ended, or chosen for
-  through_so : (l : Live S) (s : Station) (was : Job S) (source source' : D) (p : Progress S) → Ready-to-hear m lawful card range t s was source → LiveBy l t → l.age < card.tc + card.tj → IfGoing (LastJob m card range (aged l) (h ∷ slots_of t.stay) t.wait) p → Told-so m lawful card range t now_present (end_in p) here (choose source (left p)) source'
-  through_so l s was source source' (Ended e) r by young last = ended_so m lawful card range t l e now_present s here was source source' r by young is refl
-  through_so l s was source source' (Going job) r by young last = done_so l s was (choose source job) source source' r by young (chosen_not_out source (aged l) t.wait job last) (chooses m lawful card range h (slots_of t.stay) st is source (aged l) t.wait job last)
+  through_so : (l : Live S) (s : Station) (was : Job S) (source source' : D) (p : Result (Job S) End) → Ready-to-hear m lawful card range t s was source → LiveBy l t → l.age < card.tc + card.tj → IfOk p (LastJob m card range (aged l) (h ∷ slots_of t.stay) t.wait) → Told-so m lawful card range t now_present (end_in p) here (choose source (left p)) source'
+  through_so l s was source source' (Err e) r by young last = ended_so m lawful card range t l e now_present s here was source source' r by young is refl
+  through_so l s was source source' (Ok job) r by young last = done_so l s was (choose source job) source source' r by young (chosen_not_out source (aged l) t.wait job last) (chooses m lawful card range h (slots_of t.stay) st is source (aged l) t.wait job last)
 
   stays_so : (s : Station) (job : Job S) (source source' : D) → Ready-to-hear m lawful card range t s job source → Told-so m lawful card range t now_present (end_in (through (λ v. m.verdict v h.content card.address) card job)) here (choose source (left (through (λ v. m.verdict v h.content card.address) card job))) source'
   stays_so s Free source source' r = idle-so m lawful card range t now_present s here source source' r is (subst (λ (o : Option S). Fits State.Idle now_present o) (sym r.holds.job) refl)

@@ -21,7 +21,7 @@ use Rattle.rules.specs.Stations.{seeking_on}
 use Rattle.rules.proofs.Cards.{Ranged}
 use Rattle.rules.proofs.Counts.{raised-one, wait-small}
 use Rattle.rules.proofs.Stays.{PlaceIs}
-use Rattle.rules.proofs.Tallies.{Tally, LiveBy, tally, Holds, Next, one-open, none_open}
+use Rattle.rules.proofs.Tallies.{Tally, LiveBy, tally, Holds, Next}
 use Rattle.rules.proofs.Tries.{ReachedBy}
 
 -- a stay in which a slot was reached is there, and its WAIT is the one noted in it
@@ -65,7 +65,7 @@ module _ {D S : Type 0} (m : Meaning D S) (lawful : Lawful m) (card : Card) (ran
 
   -- an end that a host's call answers leaves no request open
   ended_once : (l : Live S) (b n : ℕ) → LiveBy l now_tally → b ≡ n + cond (is_some now_tally.request) 1 0 → b ≡ (n + 1) + 0
-  ended_once l b n is e = omega (arith, e, one-open m card range now_tally l.service is.service)
+  ended_once l b n is e = grind (arith, e, is.service)
 
   pub tune-granted : (ch : ℕ) (s : Station) (job : Job S) (source : D) → is_out job ≡ false → Agrees s job source → After (tune ch (Ok (end_in (lost job)))) (seeking_on ch) Free source
   tune-granted ch s Free source not_out a =
@@ -119,7 +119,7 @@ module _ {D S : Type 0} (m : Meaning D S) (lawful : Lawful m) (card : Card) (ran
           );
           out = k.out;
           permits = k.permits;
-          requests = omega (arith, k.requests, none_open m card range now_tally k.job);
+          requests = grind (arith, k.requests, k.job);
           most = omega arith;
           soon = omega arith;
         };
@@ -131,14 +131,13 @@ module _ {D S : Type 0} (m : Meaning D S) (lawful : Lawful m) (card : Card) (ran
   pub take-ready : (s : Station) (l : Live S) (window : ℕ) (source : D) → Agrees s (Trying l window Ready) source → After (take (Some card.address)) s (Trying l window Out) source
   take-ready s l window source a =
       let k = a.holds in
-      let none : ◌≡◌ {A = ℕ} (cond now_tally.out 1 0) 0 = ap {B = ℕ} (λ b. cond b 1 0) k.out in
       let is = k.job.1 in
       record {
         holds = record {
           place = k.place;
           job = (k.job.0, record { few = is.few; young = is.young; spaced = is.spaced; older = is.older; more = is.more; chose = is.chose });
           out = refl;
-          permits = omega (arith, k.permits, none);
+          permits = grind (arith, k.permits, k.out);
           requests = k.requests;
           most = k.most;
           soon = k.soon;
@@ -196,7 +195,6 @@ module _ {D S : Type 0} (m : Meaning D S) (lawful : Lawful m) (card : Card) (ran
       let one : raised l.sends ≡ l.sends + 1 = raised-one _ (omega (arith, room, range.nr_most)) in
       let first : raised (wait_now s.stay) ≡ wait_now s.stay + 1 = raised-one _ (omega (arith, small, noted)) in
       let second : raised (raised (wait_now s.stay)) ≡ raised (wait_now s.stay) + 1 = raised-one _ (omega (arith, small, noted, first)) in
-      let out : ◌≡◌ {A = ℕ} (cond now_tally.out 1 0) 1 = ap {B = ℕ} (λ b. cond b 1 0) k.out in
       record {
         holds = record {
           place = k.place;
@@ -205,7 +203,7 @@ module _ {D S : Type 0} (m : Meaning D S) (lawful : Lawful m) (card : Card) (ran
             record { few = omega (arith, one, room); young = is.young; spaced = λ some. omega (arith, noted, first, second); older = λ some. omega (arith, reach.since_begin); more = λ over. absurd (omega (arith, over, first, second)); chose = tt },
           );
           out = refl;
-          permits = omega (arith, k.permits, out);
+          permits = grind (arith, k.permits, k.out);
           requests = k.requests;
           most = omega (arith, room, live.sends);
           soon = k.soon;
@@ -219,13 +217,12 @@ module _ {D S : Type 0} (m : Meaning D S) (lawful : Lawful m) (card : Card) (ran
   held-granted p s l window source a =
       let k = a.holds in
       let is = k.job.1 in
-      let out : ◌≡◌ {A = ℕ} (cond now_tally.out 1 0) 1 = ap {B = ℕ} (λ b. cond b 1 0) k.out in
       record {
         holds = record {
           place = k.place;
           job = (k.job.0, record { few = is.few; young = is.young; spaced = is.spaced; older = is.older; more = is.more; chose = tt });
           out = refl;
-          permits = omega (arith, k.permits, out);
+          permits = grind (arith, k.permits, k.out);
           requests = k.requests;
           most = k.most;
           soon = k.soon;

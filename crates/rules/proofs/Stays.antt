@@ -10,12 +10,15 @@ use Rattle.rules.specs.Histories.{Presence, away, present, slots_of, silent, hol
 use Rattle.rules.specs.Stations.{new_stay, patient, kept, heeding, acted, followed}
 use Rattle.rules.proofs.Tables.{FramesAre, none_yet, one_more}
 
--- a stay is that of the slots heard in it: what is left of TS and the slots without a code make TS; what is noted and the frames are theirs
-pub record StayIs (card : Card) (st : Stay) (hs : List Heard) : Type 0 where
-  pub sum : st.patience + silent hs ≡ card.ts
+-- a stay is that of the slots heard in it, with so many of the newest without a code: what is left of TS and these make TS; what is noted and the frames are theirs
+pub record StillIs (card : Card) (st : Stay) (hs : List Heard) (n : ℕ) : Type 0 where
+  pub sum : st.patience + n ≡ card.ts
   pub left : 1 ≤ st.patience
   pub notes : st.noted ≡ noted_in card.nw hs
   pub frames : FramesAre card.nw st.frames hs
+
+abbrev pub StayIs : Card → Stay → List Heard → Type 0
+StayIs card st hs = StillIs card st hs (silent hs)
 
 abbrev pub PlaceIs : Card → Option Stay → Presence → Type 0
 PlaceIs card None away = Unit {0}
@@ -24,12 +27,6 @@ PlaceIs card (Some st) away = ⊥
 PlaceIs card (Some st) (present hs) = StayIs card st hs
 
 -- what is kept after a slot's code or its absence, beside what the history says of it; n counts the slots without a code
-record StillIs (card : Card) (st : Stay) (hs : List Heard) (n : ℕ) : Type 0 where
-  sum : st.patience + n ≡ card.ts
-  left : 1 ≤ st.patience
-  notes : st.noted ≡ noted_in card.nw hs
-  frames : FramesAre card.nw st.frames hs
-
 abbrev KeptAs : Card → Option Stay → Bool → List Heard → ℕ → Type 0
 KeptAs card None false hs n = Unit {0}
 KeptAs card None true hs n = ⊥

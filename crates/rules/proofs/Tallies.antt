@@ -1,5 +1,5 @@
 -- What a history says in numbers, what holds of a set beside it, and what one more call keeps.
-use Rattle.std.proofs.Common.{◌≡◌, ℕ, ◌+◌, ◌<◌, ◌≤◌, Bool, cond, List, ◌∷◌, is_some, Some, None, Option, ap, arith}
+use Rattle.std.proofs.Common.{◌≡◌, ℕ, ◌+◌, ◌<◌, ◌≤◌, Bool, cond, List, ◌∷◌, is_some, Some, None, Option, arith}
 use Rattle.rules.specs.declared.card.Card.{Card}
 use Rattle.rules.specs.declared.request.Condition.{Condition}
 use Rattle.rules.specs.declared.request.Job.{Job}
@@ -93,9 +93,6 @@ module _ {D S : Type 0} (m : Meaning D S) (card : Card) (range : Ranged card) wh
   pub wait-young : (l : Live S) → WaitIs m card range l → l.age < card.tc + card.tj
   wait-young l is = omega (arith, is.old, is.soon)
 
-  -- one is open, or none
-  pub one-open : (t : Tally S) (s : S) → t.request ≡ Some s → ◌≡◌ {A = ℕ} (cond (is_some t.request) 1 0) 1
-  one-open t s e = ap {B = ℕ} (λ (o : Option S). cond (is_some o) 1 0) e
-
+  -- none is open
   pub none_open : (t : Tally S) → t.request ≡ None → ◌≡◌ {A = ℕ} (cond (is_some t.request) 1 0) 0
-  none_open t e = ap {B = ℕ} (λ (o : Option S). cond (is_some o) 1 0) e
+  none_open t e = grind (arith, e)

@@ -1,6 +1,7 @@
 -- What holds of an open request between calls, and how a heard slot keeps it, step by step.
-use Rattle.std.proofs.Common.{◌≡◌, ℕ, suc, ◌+◌, ◌-◌, ◌<◌, ◌≤◌, Bool, true, false, cond, ◌&&◌, eqb, leb, List, ◌∷◌, sym, refl, arith, leb-false}
+use Rattle.std.proofs.Common.{◌≡◌, ℕ, suc, ◌+◌, ◌-◌, ◌<◌, ◌≤◌, Bool, true, false, cond, ◌&&◌, eqb, leb, List, ◌∷◌, Ok, Err, Result, sym, refl, arith, leb-false}
 use borrow.Author.Tests.{eqb-false, clash}
+use Rattle.std.specs.Result.{IfOk}
 use Rattle.signalling.specs.declared.content.Heard.{Heard}
 use Rattle.parts.specs.declared.verdict.EndWord.{EndWord}
 use Rattle.parts.specs.declared.verdict.EndWord.TheVariants.{NoAccess}
@@ -8,11 +9,10 @@ use Rattle.parts.specs.declared.verdict.Verdict.{Verdict}
 use Rattle.rules.specs.declared.card.Card.{Card}
 use Rattle.rules.specs.declared.request.Choice.{Choice}
 use Rattle.rules.specs.declared.request.Choice.TheVariants.{Unchosen, Ahead, Ready, Out}
+use Rattle.rules.specs.declared.request.End.{End}
 use Rattle.rules.specs.declared.request.Job.{Job}
 use Rattle.rules.specs.declared.request.Job.TheVariants.{Free, Trying, Waiting}
 use Rattle.rules.specs.declared.request.Live.{Live}
-use Rattle.rules.specs.declared.request.Progress.{Progress}
-use Rattle.rules.specs.declared.request.Progress.TheVariants.{Ended, Going}
 use Rattle.rules.specs.Jobs.{end_of, passed, lapsed, aged, judged, answered, timed, tried, waited, onward, through}
 use Rattle.rules.specs.Histories.{free_next}
 use Rattle.rules.specs.Law.{Reached}
@@ -21,14 +21,10 @@ use Rattle.rules.specs.Slots.{out_in}
 use Rattle.rules.proofs.Cards.{Ranged}
 use Rattle.rules.proofs.Counts.{raised-one}
 
--- something holds of a request that goes on
-abbrev pub IfGoing : {S : Type 0} → (Job S → Type 0) → Progress S → Type 0
-IfGoing P (Ended e) = Unit {0}
-IfGoing P (Going job) = P job
-
-pub going_on : {S : Type 0} (P Q : Job S → Type 0) (p : Progress S) (next : Job S → Progress S) → IfGoing P p → ((job : Job S) → P job → IfGoing Q (next job)) → IfGoing Q (onward p next)
-going_on P Q (Ended e) next h k = tt
-going_on P Q (Going job) next h k = k job h
+-- where P holds of a request that goes on, and Q of what the next step has go on from there, Q holds of what goes on after both
+going_on : {S : Type 0} (P Q : Job S → Type 0) (p : Result (Job S) End) (next : Job S → Result (Job S) End) → IfOk p P → ((job : Job S) → P job → IfOk (next job) Q) → IfOk (onward p next) Q
+going_on P Q (Err e) next h k = tt
+going_on P Q (Ok job) next h k = k job h
 
 module _ {D S : Type 0} (m : Meaning D S) (card : Card) (range : Ranged card) where
   -- the return slot so many ahead is within reach of a request
@@ -148,12 +144,12 @@ module _ {D S : Type 0} (m : Meaning D S) (card : Card) (range : Ranged card) wh
   waits l few young = record { few = few; old = omega arith }
 
   module _ (h : Heard) (hs : List Heard) (w : ℕ) where
-    judges_try : (v : Verdict) (l : Live S) (window : ℕ) (c : Choice) → MidTry l window c (h ∷ hs) w → IfGoing (MidJob l (h ∷ hs) w) (judged v l (Trying l window c))
+    judges_try : (v : Verdict) (l : Live S) (window : ℕ) (c : Choice) → MidTry l window c (h ∷ hs) w → IfOk (judged v l (Trying l window c)) (MidJob l (h ∷ hs) w)
     judges_try Verdict.Nothing l window c is = (refl, is)
     judges_try Verdict.Interim l window c is = (refl, waits l is.few is.young)
     judges_try (Verdict.End e) l window c is = tt
 
-    judges_wait : (v : Verdict) (l : Live S) → MidWait l → IfGoing (MidJob l (h ∷ hs) w) (judged v l (Waiting l))
+    judges_wait : (v : Verdict) (l : Live S) → MidWait l → IfOk (judged v l (Waiting l)) (MidJob l (h ∷ hs) w)
     judges_wait Verdict.Nothing l is = (refl, is)
     judges_wait Verdict.Interim l is = (refl, is)
     judges_wait (Verdict.End e) l is = tt
@@ -165,7 +161,7 @@ module _ {D S : Type 0} (m : Meaning D S) (card : Card) (range : Ranged card) wh
     shortens l window Ready is = is
     shortens l window Out is = is
 
-    times : (l live : Live S) (window : ℕ) (c : Choice) → live ≡ l → MidTry live window c (h ∷ hs) w → (window - 1 ≡ 0 → live.sends < card.nr) → (late none : Bool) → leb card.tc live.age ≡ late → IfGoing (LateJob l (h ∷ hs) w) (cond late (cond none (Ended (end_of NoAccess live)) (Going (Waiting live))) (Going (Trying live (window - 1) c)))
+    times : (l live : Live S) (window : ℕ) (c : Choice) → live ≡ l → MidTry live window c (h ∷ hs) w → (window - 1 ≡ 0 → live.sends < card.nr) → (late none : Bool) → leb card.tc live.age ≡ late → IfOk (cond late (cond none (Err (end_of NoAccess live)) (Ok (Waiting live))) (Ok (Trying live (window - 1) c))) (LateJob l (h ∷ hs) w)
     times l live window c same is more true true e = tt
     times l live window c same is more true false e = (same, waits live is.few is.young)
     times l live window c same is more false none e = (
@@ -173,37 +169,37 @@ module _ {D S : Type 0} (m : Meaning D S) (card : Card) (range : Ranged card) wh
       record { few = is.few; young = leb-false _ _ e; some = is.some; grown = is.grown; spaced = λ some. omega (arith, is.spaced some); older = is.older; more = more; chose = shortens live window c is.chose },
     )
 
-    tries_on : (l live : Live S) (window : ℕ) (c : Choice) → live ≡ l → MidTry live window c (h ∷ hs) w → (over full : Bool) → eqb (window - 1) 0 ≡ over → leb card.nr live.sends ≡ full → IfGoing (LateJob l (h ∷ hs) w) (cond (over && full) (Going (Waiting live)) (timed card.tc live (window - 1) c))
+    tries_on : (l live : Live S) (window : ℕ) (c : Choice) → live ≡ l → MidTry live window c (h ∷ hs) w → (over full : Bool) → eqb (window - 1) 0 ≡ over → leb card.nr live.sends ≡ full → IfOk (cond (over && full) (Ok (Waiting live)) (timed card.tc live (window - 1) c)) (LateJob l (h ∷ hs) w)
     tries_on l live window c same is true true e f = (same, waits live is.few is.young)
     tries_on l live window c same is true false e f = times l live window c same is (λ over. leb-false _ _ f) _ _ refl
     tries_on l live window c same is false full e f = times l live window c same is (λ over. absurd (eqb-false _ _ e over)) _ _ refl
 
-    tries : (l : Live S) (job : Job S) → MidJob l (h ∷ hs) w job → IfGoing (LateJob l (h ∷ hs) w) (tried card job)
+    tries : (l : Live S) (job : Job S) → MidJob l (h ∷ hs) w job → IfOk (tried card job) (LateJob l (h ∷ hs) w)
     tries l Free is = is
     tries l (Trying live window c) is = tries_on l live window c is.0 is.1 _ _ refl refl
     tries l (Waiting live) is = is
 
-    ends-wait : (l live : Live S) → live ≡ l → MidWait live → (over : Bool) → leb card.tj live.since ≡ over → IfGoing (LastJob l (h ∷ hs) w) (cond over (Ended (end_of EndWord.Unknown live)) (Going (Waiting live)))
+    ends-wait : (l live : Live S) → live ≡ l → MidWait live → (over : Bool) → leb card.tj live.since ≡ over → IfOk (cond over (Err (end_of EndWord.Unknown live)) (Ok (Waiting live))) (LastJob l (h ∷ hs) w)
     ends-wait l live same is true e = tt
     ends-wait l live same is false e = (same, record { few = is.few; old = is.old; soon = leb-false _ _ e })
 
-    waits_on : (l : Live S) (job : Job S) → LateJob l (h ∷ hs) w job → IfGoing (LastJob l (h ∷ hs) w) (waited card job)
+    waits_on : (l : Live S) (job : Job S) → LateJob l (h ∷ hs) w job → IfOk (waited card job) (LastJob l (h ∷ hs) w)
     waits_on l Free is = is
     waits_on l (Trying live window c) is = is
     waits_on l (Waiting live) is = ends-wait l live is.0 is.1 _ refl
 
     -- an open request through a slot: where it goes on, it is a slot older
-    goes_through : (verdict : S → Verdict) (l : Live S) (job : Job S) → IfGoing (MidJob l (h ∷ hs) w) (answered verdict (lapsed job)) → IfGoing (LastJob l (h ∷ hs) w) (through verdict card job)
+    goes_through : (verdict : S → Verdict) (l : Live S) (job : Job S) → IfOk (answered verdict (lapsed job)) (MidJob l (h ∷ hs) w) → IfOk (through verdict card job) (LastJob l (h ∷ hs) w)
     goes_through verdict l job is =
         let first = answered verdict (lapsed job) in
         going_on (LateJob l (h ∷ hs) w) (LastJob l (h ∷ hs) w) (onward first (tried card)) (waited card)
         (going_on (MidJob l (h ∷ hs) w) (LateJob l (h ∷ hs) w) first (tried card) is (tries l))
         (waits_on l)
 
-    pub try_through : (verdict : S → Verdict) (l : Live S) (window : ℕ) (c : Choice) → out_in c ≡ false → l.since < 4294967295 → TryIs l window c hs w → IfGoing (LastJob (aged l) (h ∷ hs) w) (through verdict card (Trying l window c))
+    pub try_through : (verdict : S → Verdict) (l : Live S) (window : ℕ) (c : Choice) → out_in c ≡ false → l.since < 4294967295 → TryIs l window c hs w → IfOk (through verdict card (Trying l window c)) (LastJob (aged l) (h ∷ hs) w)
     try_through verdict l window c not_out since is = goes_through verdict (aged l) (Trying l window c) (judges_try (verdict l.service) (aged l) window (passed c) (ages l window c h hs w not_out since is))
 
-    pub wait-through : (verdict : S → Verdict) (l : Live S) → WaitIs l → IfGoing (LastJob (aged l) (h ∷ hs) w) (through verdict card (Waiting l))
+    pub wait-through : (verdict : S → Verdict) (l : Live S) → WaitIs l → IfOk (through verdict card (Waiting l)) (LastJob (aged l) (h ∷ hs) w)
     wait-through verdict l is =
         let e = raised-one l.age (omega (arith, is.old, is.soon, range.tc_most, range.tj_most)) in
         let f = raised-one l.since (omega (arith, is.soon, range.tj_most)) in

@@ -13,7 +13,7 @@ use Rattle.rules.specs.Meanings.{Meaning}
 
 -- whether the noted division lets a service in (7.3.1)
 abbrev pub let_in : {D S : Type 0} → Meaning D S → ℕ → S → Noted → Bool
-let_in m own service n = admits (m.emergency service) n.qualifier n.address own
+let_in m own service n = admits (m.emergency service) n.division own
 
 -- whether a frame marked now is suitable for a service: its function invites it and the division lets it in (7.3.5)
 abbrev pub suitable : {D S : Type 0} → Meaning D S → ℕ → S → Stay → Bool

@@ -1,5 +1,5 @@
--- What a heard slot does to a request, before a slot is chosen for it.
-use Rattle.std.specs.Prelude.{ℕ, ◌+◌, ◌-◌, min, cond, ◌&&◌, ◌==◌, nat_le}
+-- What a heard slot does to a request, before a slot is chosen for it: the request goes on as the job that is `Ok`, or it ended as `Err` tells.
+use Rattle.std.specs.Prelude.{ℕ, ◌+◌, ◌-◌, min, cond, ◌&&◌, ◌==◌, Ok, Err, Result, nat_le}
 use Rattle.parts.specs.declared.verdict.EndWord.{EndWord}
 use Rattle.parts.specs.declared.verdict.EndWord.TheVariants.{NoAccess, Lost}
 use Rattle.parts.specs.declared.verdict.Verdict.{Verdict}
@@ -10,8 +10,6 @@ use Rattle.rules.specs.declared.request.End.{End}
 use Rattle.rules.specs.declared.request.Job.{Job}
 use Rattle.rules.specs.declared.request.Job.TheVariants.{Free, Trying, Waiting}
 use Rattle.rules.specs.declared.request.Live.{Live}
-use Rattle.rules.specs.declared.request.Progress.{Progress}
-use Rattle.rules.specs.declared.request.Progress.TheVariants.{Ended, Going}
 
 -- one more, in a count of 32 bits; the run law shows that no count gets near its largest
 abbrev pub raised : ℕ → ℕ
@@ -38,48 +36,48 @@ lapsed (Trying live window choice) = Trying live window (passed choice)
 lapsed (Waiting live) = Waiting live
 
 -- the end of a stay ends an open request as lost (6.2.1.2)
-abbrev pub lost : {S : Type 0} → Job S → Progress S
-lost Free = Going Free
-lost (Trying live window choice) = Ended (end_of Lost live)
-lost (Waiting live) = Ended (end_of Lost live)
+abbrev pub lost : {S : Type 0} → Job S → Result (Job S) End
+lost Free = Ok Free
+lost (Trying live window choice) = Err (end_of Lost live)
+lost (Waiting live) = Err (end_of Lost live)
 
 -- a heard slot makes an open request a slot older
 abbrev pub aged : {S : Type 0} → Live S → Live S
 aged live = record { service = live.service; age = raised live.age; sends = live.sends; since = raised live.since }
 
 -- an interim answer has a request wait, an end ends it (7.3.8, 8.2.2.3)
-abbrev pub judged : {S : Type 0} → Verdict → Live S → Job S → Progress S
-judged Verdict.Nothing live job = Going job
-judged Verdict.Interim live job = Going (Waiting live)
-judged (Verdict.End w) live job = Ended (end_of w live)
+abbrev pub judged : {S : Type 0} → Verdict → Live S → Job S → Result (Job S) End
+judged Verdict.Nothing live job = Ok job
+judged Verdict.Interim live job = Ok (Waiting live)
+judged (Verdict.End w) live job = Err (end_of w live)
 
 -- an open request ages and heeds what was heard
-abbrev pub answered : {S : Type 0} → (S → Verdict) → Job S → Progress S
-answered verdict Free = Going Free
+abbrev pub answered : {S : Type 0} → (S → Verdict) → Job S → Result (Job S) End
+answered verdict Free = Ok Free
 answered verdict (Trying live window choice) = judged (verdict live.service) (aged live) (Trying (aged live) window choice)
 answered verdict (Waiting live) = judged (verdict live.service) (aged live) (Waiting (aged live))
 
 -- the access time-out TC: a request of which nothing was sent ends, another waits (7.3.8)
-abbrev pub timed : {S : Type 0} → ℕ → Live S → ℕ → Choice → Progress S
-timed tc live window choice = cond (nat_le tc live.age) (cond (live.sends == 0) (Ended (end_of NoAccess live)) (Going (Waiting live))) (Going (Trying live window choice))
+abbrev pub timed : {S : Type 0} → ℕ → Live S → ℕ → Choice → Result (Job S) End
+timed tc live window choice = cond (nat_le tc live.age) (cond (live.sends == 0) (Err (end_of NoAccess live)) (Ok (Waiting live))) (Ok (Trying live window choice))
 
 -- a request in try: once its window is over with NR transmissions made it waits (7.3.8)
-abbrev pub tried : {S : Type 0} → Card → Job S → Progress S
-tried card Free = Going Free
-tried card (Trying live window choice) = cond (window - 1 == 0 && nat_le card.nr live.sends) (Going (Waiting live)) (timed card.tc live (window - 1) choice)
-tried card (Waiting live) = Going (Waiting live)
+abbrev pub tried : {S : Type 0} → Card → Job S → Result (Job S) End
+tried card Free = Ok Free
+tried card (Trying live window choice) = cond (window - 1 == 0 && nat_le card.nr live.sends) (Ok (Waiting live)) (timed card.tc live (window - 1) choice)
+tried card (Waiting live) = Ok (Waiting live)
 
 -- a request in wait ends as unknown once TJ slots were heard since the last transmission (8.2.2.4)
-abbrev pub waited : {S : Type 0} → Card → Job S → Progress S
-waited card Free = Going Free
-waited card (Trying live window choice) = Going (Trying live window choice)
-waited card (Waiting live) = cond (nat_le card.tj live.since) (Ended (end_of EndWord.Unknown live)) (Going (Waiting live))
+abbrev pub waited : {S : Type 0} → Card → Job S → Result (Job S) End
+waited card Free = Ok Free
+waited card (Trying live window choice) = Ok (Trying live window choice)
+waited card (Waiting live) = cond (nat_le card.tj live.since) (Err (end_of EndWord.Unknown live)) (Ok (Waiting live))
 
 -- what comes next befalls a request that goes on
-abbrev pub onward : {S : Type 0} → Progress S → (Job S → Progress S) → Progress S
-onward (Ended e) next = Ended e
-onward (Going job) next = next job
+abbrev pub onward : {S : Type 0} → Result (Job S) End → (Job S → Result (Job S) End) → Result (Job S) End
+onward (Err e) next = Err e
+onward (Ok job) next = next job
 
 -- a request through a slot that leaves the set active: it lapses, ages, heeds, tries and waits
-abbrev pub through : {S : Type 0} → (S → Verdict) → Card → Job S → Progress S
+abbrev pub through : {S : Type 0} → (S → Verdict) → Card → Job S → Result (Job S) End
 through verdict card job = onward (onward (answered verdict (lapsed job)) (tried card)) (waited card)

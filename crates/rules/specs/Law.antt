@@ -24,7 +24,7 @@ pub record Reached (own nw : ℕ) (invites : Function → Bool) (emergency : Boo
   pub covers : marker + ahead ≤ marked_back stay marker
   pub inviting : invites (noted_in nw (drop marker stay)).function ≡ true
   -- the division noted there lets the request in (7.3.1)
-  pub admitted : admits emergency (noted_in nw (drop division stay)).qualifier (noted_in nw (drop division stay)).address own ≡ true
+  pub admitted : admits emergency (noted_in nw (drop division stay)).division own ≡ true
   -- for a second or later transmission, the marker came after the one before
   pub fresh : 0 < sends → marker < since
 

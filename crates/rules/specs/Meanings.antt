@@ -3,6 +3,8 @@ use Rattle.std.specs.Prelude.{◌≡◌, ℕ, ◌≤◌, Bool, false}
 use Rattle.signalling.specs.declared.content.Content.{Content}
 use Rattle.signalling.specs.declared.content.Function.{Function}
 use Rattle.signalling.specs.declared.content.Function.TheVariants.{Alhe}
+use Rattle.parts.specs.declared.service.Service as service
+use Rattle.parts.specs.declared.source.DrawSource as source
 use Rattle.parts.specs.declared.verdict.Verdict.{Verdict}
 
 -- the meaning of a draw source, of a service and of a plan
@@ -19,6 +21,10 @@ pub record Meaning (D S : Type 0) : Type 0 where
 
 abbrev pub meaning : {D S : Type 0} → (D → ℕ → ℕ) → (D → ℕ → D) → (S → Function → Bool) → (S → Bool) → (S → Content → ℕ → Verdict) → (ℕ → Bool) → Meaning D S
 meaning r d i e v a = record { ready = r; drawn = d; invites = i; emergency = e; verdict = v; accepts = a }
+
+-- the same, from what a draw source and a service state as their traits ask
+abbrev pub meaning_of : {D S : Type 0} → source.Ghosts D → service.Ghosts S → (ℕ → Bool) → Meaning D S
+meaning_of d s accepts = meaning d.ready d.drawn s.invites s.emergency s.verdict accepts
 
 -- the laws of the parts that the run law rests on
 pub record Lawful {D S : Type 0} (m : Meaning D S) : Type 0 where

@@ -1,5 +1,6 @@
 -- One heard slot as a whole, for a set in some condition.
-use Rattle.std.specs.Prelude.{Bool, true, false, Some, None, Option}
+use Rattle.std.specs.Prelude.{Bool, true, false, Some, None, Option, Result}
+use Rattle.std.specs.Result.{result_err, result_unwrap_or}
 use Rattle.signalling.specs.declared.content.Content.{Content}
 use Rattle.signalling.specs.declared.content.Heard.{Heard}
 use Rattle.signalling.specs.Reading.{marked, leaves_free}
@@ -10,8 +11,6 @@ use Rattle.rules.specs.declared.request.Condition.{Condition}
 use Rattle.rules.specs.declared.request.End.{End}
 use Rattle.rules.specs.declared.request.Job.{Job}
 use Rattle.rules.specs.declared.request.Job.TheVariants.{Free, Trying, Waiting}
-use Rattle.rules.specs.declared.request.Progress.{Progress}
-use Rattle.rules.specs.declared.request.Progress.TheVariants.{Ended, Going}
 use Rattle.rules.specs.declared.request.Told.{Told}
 use Rattle.rules.specs.declared.station.State.{State}
 use Rattle.rules.specs.declared.station.Stay.{Stay}
@@ -22,26 +21,24 @@ use Rattle.rules.specs.Meanings.{Meaning}
 use Rattle.rules.specs.Stations.{followed}
 
 -- a request through a slot: lost where the slot leaves the set without a stay
-abbrev pub progressed : {D S : Type 0} → Meaning D S → Card → Option Stay → Job S → Content → Progress S
+abbrev pub progressed : {D S : Type 0} → Meaning D S → Card → Option Stay → Job S → Content → Result (Job S) End
 progressed m card None job content = lost job
 progressed m card (Some st) job content = through (λ s. m.verdict s content card.address) card job
 
 -- what a set is about once an end is told
-abbrev pub left : {S : Type 0} → Progress S → Job S
-left (Ended e) = Free
-left (Going job) = job
+abbrev pub left : {S : Type 0} → Result (Job S) End → Job S
+left p = result_unwrap_or p Free
 
 -- the end that came, if one came
-abbrev pub end_in : {S : Type 0} → Progress S → Option End
-end_in (Ended e) = Some e
-end_in (Going job) = None
+abbrev pub end_in : {S : Type 0} → Result (Job S) End → Option End
+end_in p = result_err p
 
 -- a set with a stay chooses a slot for a request that goes on
-abbrev pub job_in : {D S : Type 0} → Meaning D S → Card → D → Option Stay → Progress S → Content → Job S
+abbrev pub job_in : {D S : Type 0} → Meaning D S → Card → D → Option Stay → Result (Job S) End → Content → Job S
 job_in m card source None p content = left p
 job_in m card source (Some st) p content = choosing m card.address (leaves_free content card.address) source (left p) st (marked content)
 
-abbrev pub source_in : {D S : Type 0} → Meaning D S → Card → D → Option Stay → Progress S → Content → D
+abbrev pub source_in : {D S : Type 0} → Meaning D S → Card → D → Option Stay → Result (Job S) End → Content → D
 source_in m card source None p content = source
 source_in m card source (Some st) p content = source_after m card.address source (left p) st (marked content)
 
@@ -86,7 +83,7 @@ module _ {D S : Type 0} (m : Meaning D S) (card : Card) (c : Condition D S) (h :
   abbrev pub station_heard : Station
   station_heard = followed m.accepts card c.station h
 
-  abbrev pub progress_heard : Progress S
+  abbrev pub progress_heard : Result (Job S) End
   progress_heard = progressed m card station_heard.stay c.job h.content
 
   -- the condition of the set after the slot

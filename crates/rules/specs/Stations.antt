@@ -5,6 +5,7 @@ use Rattle.signalling.specs.declared.content.Content.{Content}
 use Rattle.signalling.specs.declared.content.Function.TheVariants.{Alhx}
 use Rattle.signalling.specs.declared.content.Heard.{Heard}
 use Rattle.signalling.specs.declared.content.Noted.{Noted}
+use Rattle.signalling.specs.Division.{division}
 use Rattle.signalling.specs.Reading.{marked, moved, noted}
 use Rattle.rules.specs.declared.card.Card.{Card}
 use Rattle.rules.specs.declared.station.Stay.{Stay}
@@ -13,7 +14,7 @@ use Rattle.rules.specs.Frames.{mark_of, no_frames, marking}
 
 -- until an Aloha message is heard a set takes the function to be ALHX, the population undivided and the delay NW (7.3.1, 7.3.2, 7.3.7)
 abbrev pub first_noted : ℕ → Noted
-first_noted nw = record { function = Alhx; qualifier = 0; address = 0; wait = nw }
+first_noted nw = record { function = Alhx; division = division 0 0; wait = nw }
 
 -- a stay that begins: TS slots in a row without a system code would end it (6.2.1.2)
 abbrev pub new_stay : Card → Stay

@@ -22,7 +22,7 @@ pub struct Live<S> {
 
 // The return slot that a request is to be sent in: none chosen; chosen, so many slots ahead; the next one, with
 // a permit ready; or the next one, with its permit handed over.
-#[derive(Clone, Copy)]
+#[derive(Clone, Copy, Debug, PartialEq, Eq)]
 pub enum Choice {
     Unchosen,
     Ahead(u32),
@@ -31,7 +31,8 @@ pub enum Choice {
 }
 
 // What a set is about: no request; one that tries for access, with what is left of its response window; or one
-// that waits for further signalling.
+// that waits for further signalling. An `Option` of a request with a phase would be no plainer: each rule would match
+// twice where it reads one of three cases.
 #[derive(Clone, Copy, Drop)]
 pub enum Job<S> {
     Free,
@@ -43,13 +44,6 @@ pub enum Job<S> {
     Waiting {
         live: Live<S>,
     },
-}
-
-// A request on its way through a heard slot: ended, or going on.
-#[derive(Clone, Copy, Drop)]
-pub enum Progress<S> {
-    Ended(End),
-    Going(Job<S>),
 }
 
 // What a heard slot is answered: the state after it, whether a permit is ready, and the end that came.

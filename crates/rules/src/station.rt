@@ -3,7 +3,7 @@ use signalling::content::{Function, Noted};
 
 // What a set tells of itself: seeking a control channel, or active on one with no request, with a request
 // that tries for access, or with one that waits for further signalling.
-#[derive(Clone, Copy)]
+#[derive(Clone, Copy, Debug, PartialEq, Eq)]
 pub enum State {
     Seeking,
     Idle,
@@ -11,18 +11,20 @@ pub enum State {
     Waiting,
 }
 
-// What one heard slot marked: a frame of so many return slots under a function; no frame where they are 0.
+// A frame that a heard slot marked: its function, and its return slots, 1 or more. A `FrameLength` would be no plainer
+// than the number: the definitions count with it, and would show its range each time they name a frame.
 #[derive(Clone, Copy)]
 pub struct Mark {
     pub function: Function,
     pub slots: u32,
 }
 
-// What the newest 32 slots of a stay marked: the slot heard last has its record at `place`, the one before it
-// at the place before, and so on around the table.
+// What each of the newest 32 slots of a stay marked, if it marked a frame: the slot heard last has its record at
+// `place`, the one before it at the place before, and so on around the table. It has a fixed size, so that a set
+// needs no heap, and one place of it is written for each slot.
 #[derive(Clone, Copy)]
 pub struct Frames {
-    pub marks: [Mark; 32],
+    pub marks: [Option<Mark>; 32],
     pub place: u32,
 }
 

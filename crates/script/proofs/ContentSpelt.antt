@@ -2,15 +2,16 @@
 use Rattle.std.proofs.Common.{◌≡◌, ℕ, List, [], ◌∷◌, ◌++◌, Some, None, decimal, Option, refl, ap, ◌∙◌, subst, append_assoc}
 use Rattle.signalling.specs.declared.content.Content.{Content}
 use Rattle.signalling.specs.declared.content.Content.TheVariants.{Deaf, Data, Aloha, Reply, Go, Ahy, Ahyq, Head, Mark, Bcast, Move, Other}
+use Rattle.signalling.specs.Division.{division}
 use Rattle.script.specs.declared.names.ContentName.{ContentName}
 use Rattle.script.specs.declared.names.ContentName.TheVariants as called
 use Rattle.script.specs.Items.{Item, opening, closing, space, word, end}
 use Rattle.script.specs.Reading.{got, gives, bind, then, field}
 use Rattle.script.specs.Words.{number_in, function_of, kind_of, first_of}
-use Rattle.script.specs.Writing.{Small, SmallFirst, function_word, kind_word, first_word, content_word, spaced, content_name, field_words, SmallContent, content_items, code_items, SmallCode, heard_items, SmallHeard}
-use Rattle.script.specs.Script.{two, data_fields, aloha_fields, reply_fields, go_fields, ahy_fields, ahyq_fields, head_fields, move_fields, content_fields, content, some_code, code, heard_fields}
+use Rattle.script.specs.Writing.{Small, SmallFirst, function_word, kind_word, first_word, spaced, content_name, field_words, SmallContent, content_items, code_items, SmallCode, heard_items, SmallHeard}
+use Rattle.script.specs.Script.{two, data_fields, division_fields, aloha_fields, reply_fields, go_fields, ahy_fields, ahyq_fields, head_fields, move_fields, content_fields, content_within, content, some_code, code, heard_fields}
 use Rattle.script.proofs.Told.{Any, tells-number, tells-function, tells-kind, tells_first, tells-content}
-use Rattle.script.proofs.Spelt.{From, Spelt, from_then, from_gives, goes_on, spelt-opens, spelt-closes, spelt-parts, spelt-means, spelt-field}
+use Rattle.script.proofs.Spelt.{From, Spelt, from_then, from_gives, goes_on, spelt-enclosed, spelt-named, spelt-parts, spelt-means, spelt-field}
 
 -- the fields of a number, an Aloha function, a kind of acknowledgement and a first ident
 pub number : Spelt (field number_in) (λ n. space ∷ word (decimal n) ∷ []) Small
@@ -34,6 +35,15 @@ pair =
       complete = λ x r g. goes_on number x.0 g.0 _ _ _ (goes_on number x.1 g.1 _ _ _ refl);
     }
 
+-- a division
+pub parted : Spelt division_fields (λ d. spaced (decimal d.qualifier ∷ decimal d.address ∷ [])) (λ d. Small d.qualifier × Small d.address)
+unfolding division_fields
+parted =
+    record {
+      sounds = from_then pair.sounds (λ x g. from_gives (division x.0 x.1) refl g);
+      complete = λ d r g. goes_on pair (d.qualifier, d.address) g _ _ _ refl;
+    }
+
 abbrev Named : ContentName → Content → Type 0
 Named name x = (content_name x ≡ name) × SmallContent x
 
@@ -42,7 +52,7 @@ unfolding data_fields aloha_fields reply_fields go_fields ahy_fields ahyq_fields
 from_fields called.Deaf = from_gives Deaf refl (refl, tt)
 from_fields called.Data = from_then pair.sounds (λ x g. from_gives (Data x.0 x.1) refl (refl, g))
 from_fields called.Aloha =
-    from_then function.sounds (λ f _. from_then pair.sounds (λ x g. from_then pair.sounds (λ y h. from_gives (Aloha f x.0 x.1 y.0 y.1) refl (refl, (g.0, g.1, h.0, h.1)))))
+    from_then function.sounds (λ f _. from_then pair.sounds (λ x g. from_then parted.sounds (λ d h. from_gives (Aloha f x.0 x.1 d) refl (refl, (g.0, g.1, h.0, h.1)))))
 from_fields called.Reply =
     from_then kind.sounds (λ k _. from_then pair.sounds (λ x g. from_then first.sounds (λ f gf. from_then number.sounds (λ to gt. from_gives (Reply k x.0 x.1 f to) refl (refl, (g.0, g.1, gf, gt))))))
 from_fields called.Go = from_then pair.sounds (λ x g. from_then pair.sounds (λ y h. from_gives (Go x.0 x.1 y.0 y.1) refl (refl, (g.0, g.1, h.0, h.1))))
@@ -51,14 +61,14 @@ from_fields called.Ahyq = from_then pair.sounds (λ x g. from_gives (Ahyq x.0 x.
 from_fields called.Head = from_then number.sounds (λ to g. from_gives (Head to) refl (refl, g))
 from_fields called.Mark = from_gives Mark refl (refl, tt)
 from_fields called.Bcast = from_gives Bcast refl (refl, tt)
-from_fields called.Move = from_then pair.sounds (λ x g. from_then number.sounds (λ n h. from_gives (Move x.0 x.1 n) refl (refl, (g.0, g.1, h))))
+from_fields called.Move = from_then parted.sounds (λ d g. from_then number.sounds (λ n h. from_gives (Move d n) refl (refl, (g.0, g.1, h))))
 from_fields called.Other = from_gives Other refl (refl, tt)
 
 fields_complete : (x : Content) (r : List Item) → SmallContent x → content_fields (content_name x) (spaced (field_words x) ++ r) ≡ got x r
 unfolding data_fields aloha_fields reply_fields go_fields ahy_fields ahyq_fields head_fields move_fields
 fields_complete Deaf r g = refl
 fields_complete (Data a b) r g = goes_on pair (a, b) g _ _ _ refl
-fields_complete (Aloha f a b c d) r g = goes_on function f tt _ _ _ (goes_on pair (a, b) (g.0, g.1) _ _ _ (goes_on pair (c, d) (g.2, g.3) _ _ _ refl))
+fields_complete (Aloha f a b d) r g = goes_on function f tt _ _ _ (goes_on pair (a, b) (g.0, g.1) _ _ _ (goes_on parted d (g.2, g.3) _ _ _ refl))
 fields_complete (Reply k a b f to) r g = goes_on kind k tt _ _ _ (goes_on pair (a, b) (g.0, g.1) _ _ _ (goes_on first f g.2 _ _ _ (goes_on number to g.3 _ _ _ refl)))
 fields_complete (Go a b c d) r g = goes_on pair (a, b) (g.0, g.1) _ _ _ (goes_on pair (c, d) (g.2, g.3) _ _ _ refl)
 fields_complete (Ahy a b) r g = goes_on pair (a, b) g _ _ _ refl
@@ -66,7 +76,7 @@ fields_complete (Ahyq a b) r g = goes_on pair (a, b) g _ _ _ refl
 fields_complete (Head to) r g = goes_on number to g _ _ _ refl
 fields_complete Mark r g = refl
 fields_complete Bcast r g = refl
-fields_complete (Move a b c) r g = goes_on pair (a, b) (g.0, g.1) _ _ _ (goes_on number c g.2 _ _ _ refl)
+fields_complete (Move d c) r g = goes_on parted d (g.0, g.1) _ _ _ (goes_on number c g.2 _ _ _ refl)
 fields_complete Other r g = refl
 
 spelt_fields : (name : ContentName) → Spelt (content_fields name) (λ x. spaced (field_words x)) (Named name)
@@ -77,16 +87,8 @@ spelt_fields name =
     }
 
 pub spelt-content : Spelt content content_items SmallContent
-unfolding content
-spelt-content =
-    record {
-      sounds =
-          from_then spelt-opens.sounds (λ _ _. from_then (spelt-means tells-content).sounds (λ name _. from_then (from_fields name) (λ x g. from_then spelt-closes.sounds (λ _ _.
-          from_gives x (ap (λ n. opening ∷ word (content_word n) ∷ (spaced (field_words x) ++ closing ∷ [])) g.0) g.1))));
-      complete = λ x r g.
-          ap (λ us. content (opening ∷ word (content_word (content_name x)) ∷ us)) (append_assoc (spaced (field_words x)) (closing ∷ []) r)
-          ∙ goes_on spelt-opens tt tt _ _ _ (goes_on (spelt-means tells-content) (content_name x) tt _ _ _ (goes_on (spelt_fields (content_name x)) x (refl, g) _ _ _ (goes_on spelt-closes tt tt _ _ _ refl)));
-    }
+unfolding content_within
+spelt-content = spelt-enclosed (spelt-named {name_of = content_name} tells-content spelt_fields)
 
 from-code : From code code_items SmallCode []
 unfolding code

@@ -10,7 +10,7 @@ use Rattle.script.specs.Cursor.{line_of, outcome, Follows, Placed}
 use Rattle.script.specs.Inside.{Inside, up_to}
 use Rattle.script.specs.Items.{Item, opening, closing, space, word, end, before, items, joined}
 use Rattle.script.specs.Reading.{Out, got, stuck, Reads}
-use Rattle.script.proofs.Inward.{NoClosing, Shut, extend}
+use Rattle.script.specs.Inward.{NoClosing, Shut, extend}
 use Rattle.script.proofs.Levels.{bracket_at_close}
 
 -- bytes laid before some items

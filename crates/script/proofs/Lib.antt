@@ -3,7 +3,6 @@ pub mod Cut
 pub mod Drawing
 pub mod DrawsSpelt
 pub mod Follow
-pub mod Inward
 pub mod Lawful
 pub mod Leftmost
 pub mod Levels
@@ -12,7 +11,6 @@ pub mod Lines
 pub mod Numerals
 pub mod ReadOnly
 pub mod ReadRight
-pub mod Shut
 pub mod Singles
 pub mod Spelt
 pub mod Tidy

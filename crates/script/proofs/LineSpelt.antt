@@ -1,37 +1,32 @@
 -- A line is read as a form exactly where it is that form's line.
-use Rattle.std.proofs.Common.{◌≡◌, List, [], ◌∷◌, ◌++◌, codes, decimal, refl, ap, ◌∙◌, subst, append_assoc}
+use Rattle.std.proofs.Common.{◌≡◌, List, [], ◌∷◌, ◌++◌, codes, decimal, sym, refl, ap, ◌∙◌, subst, append_assoc}
 use Rattle.script.specs.declared.form.Form.{Form}
 use Rattle.script.specs.declared.form.Form.TheVariants.{Make, Tune, Begin, Take, Sent, Held, Cancel, Slot}
 use Rattle.script.specs.declared.names.FormName.{FormName}
 use Rattle.script.specs.declared.names.FormName.TheVariants as called
-use Rattle.script.specs.declared.names.MaskName.{MaskName}
-use Rattle.script.specs.declared.names.MaskName.TheVariants.{Mask}
-use Rattle.script.specs.Items.{Item, opening, closing, space, word, end}
-use Rattle.script.specs.Reading.{got, field}
+use Rattle.script.specs.Items.{Item, space, word, end}
+use Rattle.script.specs.Reading.{got, enclosed_field, field}
 use Rattle.script.specs.Words.{service_of}
-use Rattle.script.specs.Writing.{Small, service_word, form_word, mask_word, spaced, bracketed, mask_items, make_items, SmallMake, form_name, form_items, Writable, written}
-use Rattle.script.specs.Script.{mask, make_fields, form_fields, form, line}
-use Rattle.script.proofs.Told.{Any, tells-service, tells-mask, tells-form}
-use Rattle.script.proofs.Spelt.{From, Spelt, from_then, from_gives, goes_on, spelt-opens, spelt-closes, spelt-parts, spelt-ends, spelt-means, spelt-field}
+use Rattle.script.specs.Writing.{spaced, Small, service_word, form_word, bracketed, draws_items, mask_items, make_items, SmallDraws, SmallMake, form_name, form_items, Writable, written}
+use Rattle.script.specs.Script.{mask, mask_within, make_fields, making, form_fields, form, line}
+use Rattle.script.proofs.Told.{Any, tells-service, tells-only, tells-form}
+use Rattle.script.proofs.Spelt.{From, Spelt, from_last, from_then, from_gives, goes_on, spelt-enclosed, spelt-named, spelt-parts, spelt-ends, spelt-means, spelt-field}
 use Rattle.script.proofs.ContentSpelt.{number, pair, spelt_heard}
-use Rattle.script.proofs.DrawsSpelt.{spelt-draws}
+use Rattle.script.proofs.DrawsSpelt.{made, sixteen-few, spelt-draws}
 
 service : Spelt (field service_of) (λ s. space ∷ word (service_word s) ∷ []) Any
 service = spelt-field tells-service
 
-one_word : (name : MaskName) → codes "mask" ≡ mask_word name
-one_word Mask = refl
-
-spelt-mask : Spelt mask (λ m. space ∷ mask_items m.0 m.1) (λ m. Small m.0 × Small m.1)
-unfolding mask
+spelt-mask : Spelt mask (λ m. space ∷ mask_items m) (λ m. Small m.mask × Small m.value)
+unfolding enclosed_field mask_within
 spelt-mask =
+    let inner : Spelt mask_within (λ m. word (codes "mask") ∷ spaced (decimal m.mask ∷ decimal m.value ∷ [])) (λ m. Small m.mask × Small m.value) =
     record {
-      sounds =
-          from_then spelt-parts.sounds (λ _ _. from_then spelt-opens.sounds (λ _ _. from_then (spelt-means tells-mask).sounds (λ name _. from_then pair.sounds (λ m g. from_then spelt-closes.sounds (λ _ _.
-          from_gives m (ap (λ w. space ∷ bracketed w (spaced (decimal m.0 ∷ decimal m.1 ∷ []))) (one_word name)) g)))));
-      complete = λ m r g.
-          goes_on spelt-parts tt tt _ _ _ (goes_on spelt-opens tt tt _ _ _ (goes_on (spelt-means tells-mask) Mask tt _ _ _ (goes_on pair m g _ _ _ (goes_on spelt-closes tt tt _ _ _ refl))));
-    }
+      sounds = from_then (spelt-means (tells-only (codes "mask"))).sounds (λ _ _. from_then pair.sounds (λ x g. from_gives (record { mask = x.0; value = x.1 }) refl g));
+      complete = λ m r g. goes_on (spelt-means (tells-only (codes "mask"))) tt tt _ _ _ (goes_on pair (m.mask, m.value) g _ _ _ refl);
+    } in
+    let form = spelt-enclosed inner in
+    record { sounds = from_then spelt-parts.sounds (λ _ _. from_last form.sounds); complete = λ m r g. goes_on spelt-parts tt tt _ _ _ (form.complete m r g) }
 
 spelt_make : Spelt make_fields make_items SmallMake
 unfolding make_fields
@@ -39,10 +34,12 @@ spelt_make =
     record {
       sounds =
           from_then pair.sounds (λ x gx. from_then pair.sounds (λ y gy. from_then pair.sounds (λ z gz. from_then number.sounds (λ w gw. from_then spelt-mask.sounds (λ m gm. from_then spelt-draws.sounds (λ d gd.
-          from_gives (record { address = x.0; channel = x.1; nr = y.0; tc = y.1; ts = z.0; tj = z.1; nw = w; mask = m.0; value = m.1; draws = d }) refl (record { address = gx.0; channel = gx.1; nr = gy.0; tc = gy.1; ts = gz.0; tj = gz.1; nw = gw; mask = gm.0; its = gm.1; draws = gd })))))));
+          let same = sixteen-few d gd.1 in
+          from_gives (making x y z w m d) (ap (λ e. spaced (decimal x.0 ∷ decimal x.1 ∷ decimal y.0 ∷ decimal y.1 ∷ decimal z.0 ∷ decimal z.1 ∷ decimal w ∷ []) ++ (space ∷ (mask_items m ++ (space ∷ draws_items e)))) same)
+          (record { address = gx.0; channel = gx.1; nr = gy.0; tc = gy.1; ts = gz.0; tj = gz.1; nw = gw; mask = gm.0; its = gm.1; draws = subst SmallDraws (sym same) gd.0 })))))));
       complete = λ m r g.
-          goes_on pair (m.address, m.channel) (g.address, g.channel) _ _ _ (goes_on pair (m.nr, m.tc) (g.nr, g.tc) _ _ _ (goes_on pair (m.ts, m.tj) (g.ts, g.tj) _ _ _ (goes_on number m.nw g.nw _ _ _
-          (goes_on spelt-mask (m.mask, m.value) (g.mask, g.its) _ _ _ (goes_on spelt-draws m.draws g.draws _ _ _ refl)))));
+          goes_on pair (m.card.address, m.channel) (g.address, g.channel) _ _ _ (goes_on pair (m.card.nr, m.card.tc) (g.nr, g.tc) _ _ _ (goes_on pair (m.card.ts, m.card.tj) (g.ts, g.tj) _ _ _ (goes_on number m.card.nw g.nw _ _ _
+          (goes_on spelt-mask m.plan (g.mask, g.its) _ _ _ (goes_on spelt-draws m.draws (g.draws, m.few) _ _ _ (ap (λ x. got x r) (made m)))))));
     }
 
 abbrev Named : FormName → Form → Type 0
@@ -73,15 +70,7 @@ spelt_fields name = record { sounds = from_fields name; complete = λ f r g. sub
 
 spelt-form : Spelt form (λ f. bracketed (form_word (form_name f)) (form_items f)) Writable
 unfolding form
-spelt-form =
-    record {
-      sounds =
-          from_then spelt-opens.sounds (λ _ _. from_then (spelt-means tells-form).sounds (λ name _. from_then (from_fields name) (λ f g. from_then spelt-closes.sounds (λ _ _.
-          from_gives f (ap (λ n. bracketed (form_word n) (form_items f)) g.0) g.1))));
-      complete = λ f r g.
-          ap (λ us. form (opening ∷ word (form_word (form_name f)) ∷ us)) (append_assoc (form_items f) (closing ∷ []) r)
-          ∙ goes_on spelt-opens tt tt _ _ _ (goes_on (spelt-means tells-form) (form_name f) tt _ _ _ (goes_on (spelt_fields (form_name f)) f (refl, g) _ _ _ (goes_on spelt-closes tt tt _ _ _ refl)));
-    }
+spelt-form = spelt-enclosed (spelt-named {name_of = form_name} tells-form spelt_fields)
 
 pub spelt-line : Spelt line written Writable
 unfolding line

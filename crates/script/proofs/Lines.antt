@@ -1,9 +1,8 @@
 -- The items of a line from a place on.
-use Rattle.std.proofs.Common.{◌≡◌, ℕ, zero, suc, ◌+◌, ◌-◌, ◌<◌, ◌≤◌, Bool, true, false, cond, eqb, List, [], ◌∷◌, length, get_or, take, drop, sym, refl, ap, ◌∙◌, subst, ⊎_elim, arith}
-use Rattle.std.proofs.lemmas.List.{at_drop_more, at_drop_all, drop-drop, get_or-drop, length-drop, length-take-le}
+use Rattle.std.proofs.Common.{◌≡◌, ℕ, zero, suc, ◌+◌, ◌<◌, ◌≤◌, Bool, true, false, cond, eqb, List, [], ◌∷◌, length, get_or, take, drop, sym, refl, ap, ◌∙◌, subst, ⊎_elim, arith}
+use Rattle.std.proofs.lemmas.List.{at_drop_more, at_drop_all, length-take-le}
 use Rattle.std.proofs.lemmas.Bool.{cases_lt, false≢true, true≢false}
 use Rattle.std.proofs.lemmas.Bool.Decides.{nat_tests}
-use Rattle.std.specs.List.{between}
 use Rattle.script.specs.Items.{Item, opening, closing, space, word, end, in_word, joined, before, items}
 
 -- the byte at a place says how the items from there begin
@@ -65,34 +64,23 @@ run (suc n) (b ∷ bs) h p =
     ∙ ap (joined b) (run n bs (omega arith) (λ k l. p (suc k) (omega arith)))
 
 -- no word begins where a run has stopped
-stopped : (l : List ℕ) (i : ℕ) → (i < length l → in_word (get_or l i 0) ≡ false) → NoWord (items (drop i l))
-stopped l i h =
+stopped : (bs : List ℕ) (n : ℕ) → (n < length bs → in_word (get_or bs n 0) ≡ false) → NoWord (items (drop n bs))
+stopped bs n h =
     ⊎_elim
-    (λ in-line. subst NoWord (sym (at_byte l i in-line)) (first_of (eqb (get_or l i 0) 40) (eqb (get_or l i 0) 41) (eqb (get_or l i 0) 32) _ _ (h in-line)))
-    (λ past. subst NoWord (sym (at-end l i past)) tt)
-    (cases_lt i (length l))
+    (λ in-line. subst NoWord (sym (at_byte bs n in-line)) (first_of (eqb (get_or bs n 0) 40) (eqb (get_or bs n 0) 41) (eqb (get_or bs n 0) 32) _ _ (h in-line)))
+    (λ past. subst NoWord (sym (at-end bs n past)) tt)
+    (cases_lt n (length bs))
 
 -- a run of word bytes that stops is one word
-pub at-word : (l : List ℕ) (from to : ℕ) → from < to → to ≤ length l → ((k : ℕ) → from ≤ k → k < to → in_word (get_or l k 0) ≡ true) → (to < length l → in_word (get_or l to 0) ≡ false) → items (drop from l) ≡ word (between from to l) ∷ items (drop to l)
-at-word l from to some within inside stops =
-    let room : to - from ≤ length (drop from l) = simp length-drop (omega arith) in
-    let long : 0 < length (between from to l) = omega (arith, length-take-le (to - from) (drop from l) room) in
-    let behind : drop (to - from) (drop from l) ≡ drop to l = drop-drop (to - from) from l ∙ ap (λ n. drop n l) (omega arith) in
-    run (to - from) (drop from l) room (λ k h. rw get_or-drop (inside (from + k) (omega arith) (omega arith)))
-    ∙ ap (λ bs. glued (between from to l) (items bs)) behind
-    ∙ glued-word (between from to l) (items (drop to l)) long (stopped l to stops)
-
--- a word spans the bytes from one place to the other
-pub spans : (l : List ℕ) (from to : ℕ) → from ≤ to → to ≤ length l → from + length (between from to l) ≡ to
-spans l from to h within =
-    let room : to - from ≤ length (drop from l) = simp length-drop (omega arith) in
-    omega (arith, length-take-le (to - from) (drop from l) room)
+pub at-word : (bs : List ℕ) (n : ℕ) → 0 < n → n ≤ length bs → ((k : ℕ) → k < n → in_word (get_or bs k 0) ≡ true) → (n < length bs → in_word (get_or bs n 0) ≡ false) → items bs ≡ word (take n bs) ∷ items (drop n bs)
+at-word bs n some within inside stops =
+    run n bs within inside ∙ glued-word (take n bs) (items (drop n bs)) (omega (arith, length-take-le n bs within)) (stopped bs n stops)
 
 -- a byte that is no sign is part of a word
 pub plain_byte : (b : ℕ) → (b ≡ 40 → ⊥) → (b ≡ 41 → ⊥) → (b ≡ 32 → ⊥) → in_word b ≡ true
 plain_byte b p q r = grind (arith, nat_tests)
 
 -- a run that begins with such a byte has it
-pub past_first : (l : List ℕ) (from to : ℕ) → from < length l → in_word (get_or l from 0) ≡ true → from ≤ to → (to < length l → in_word (get_or l to 0) ≡ false) → from < to
-past_first l from to within plain h stops =
-    ⊎_elim (λ e. e) (λ back. absurd (true≢false (sym plain ∙ ap (λ i. in_word (get_or l i 0)) (let e : from ≡ to = omega arith in e) ∙ stops (omega arith)))) (cases_lt from to)
+pub past_first : (bs : List ℕ) (n : ℕ) → 0 < length bs → in_word (get_or bs 0 0) ≡ true → (n < length bs → in_word (get_or bs n 0) ≡ false) → 0 < n
+past_first bs zero some plain stops = absurd (true≢false (sym plain ∙ stops some))
+past_first bs (suc n) some plain stops = omega arith

@@ -3,6 +3,8 @@ use Rattle.std.proofs.Common.{◌≡◌, ℕ, ◌+◌, ◌⊎◌, List, [], ◌�
 use Rattle.script.specs.declared.fault.Fault.{Fault}
 use Rattle.script.specs.declared.fault.Fault.TheVariants.{Malformed, OutOfTurn, LineTooLong, InputTooLong}
 use Rattle.script.specs.declared.form.Form.{Form}
+use Rattle.script.specs.declared.reader.Reader.{Reader}
+use Rattle.script.specs.Cursor.{Follows, line_of as line_at}
 use Rattle.script.specs.Items.{Item, items, spell}
 use Rattle.script.specs.Reading.{got}
 use Rattle.script.specs.Script.{line as a_line}
@@ -12,6 +14,7 @@ use Rattle.script.specs.ReadAs.{line_of, Begun, FaultAt, ReadAs, ReadFrom}
 use Rattle.script.proofs.Tidy.{items-spell}
 use Rattle.script.proofs.TidyForms.{tidy-written}
 use Rattle.script.proofs.ReadRight.{reads-written, read_as}
+use Rattle.script.proofs.Whole.{named, whole-line}
 
 -- the items of a form's line are those that are written for it
 items-line : (line : List ℕ) (f : Form) → Writable f → line ≡ line_of f → items line ≡ written f
@@ -82,3 +85,7 @@ pub read-from : (line : List ℕ) (r : Result Form Fault) → r ≡ reading line
 read-from line r e =
     let right = subst (ReadAs line) (sym e) (read_as line) in
     record { is = e; right = right; only = λ s other. one_answer line s r other right }
+
+-- so is what a reader reads that stands at the start of its line
+pub read_from_start : {a b : Reader} {r : Result Form Fault} → Follows named a b r → a.pos ≡ 0 → ReadFrom (line_at a) r
+read_from_start {a} {b} {r} f start = read-from (line_at a) r (whole-line r f start a.short)

@@ -2,7 +2,7 @@
 use Rattle.std.proofs.Common.{◌≡◌, ℕ, List, [], ◌∷◌, ◌++◌, Some, None, Option, sym, refl, ap, ◌∙◌, subst, append_assoc, arith}
 use mathlib.Core.Path.{fun_ext}
 use Rattle.script.specs.Items.{Item, opening, closing, space, word, end}
-use Rattle.script.specs.Reading.{Out, got, stuck, Reads, gives, bind, then, opens, closes, parts, ends, means, field}
+use Rattle.script.specs.Reading.{Out, got, stuck, Reads, gives, bind, then, opens, closes, parts, ends, enclosed, means, field}
 use Rattle.script.proofs.Lawful.{not_both, taken, one}
 use Rattle.script.proofs.Singles.{as_opening, as_closing, as_space, as_end, as_word, opens_one, closes-one, parts-one, ends-one, means-one}
 use Rattle.script.proofs.Told.{Tells, Any}
@@ -119,3 +119,35 @@ spelt-means {A} {of} {word_for} {Good} tells = spelt_like (means-one of) (spelt-
 pub spelt-field : {A : Type 0} {of : List ℕ → Option A} {word_for : A → List ℕ} {Good : A → Type 0} → Tells of word_for Good → Spelt (field of) (λ a. space ∷ word (word_for a) ∷ []) Good
 unfolding field then
 spelt-field tells = record { sounds = from_then spelt-parts.sounds (λ _ _. from_last (spelt-means tells).sounds); complete = (spelt-means tells).complete }
+
+-- what is written between brackets
+pub from-enclosed : {A : Type 0} {p : Reads A} {s : A → List Item} {G : A → Type 0} → From p s G [] → From (enclosed p) (λ a. opening ∷ (s a ++ closing ∷ [])) G []
+unfolding enclosed
+from-enclosed inner = from_then spelt-opens.sounds (λ _ _. from_then (from_last inner) (λ a g. from_then spelt-closes.sounds (λ _ _. from_gives a refl g)))
+
+pub spelt-enclosed : {A : Type 0} {p : Reads A} {s : A → List Item} {G : A → Type 0} → Spelt p s G → Spelt (enclosed p) (λ a. opening ∷ (s a ++ closing ∷ [])) G
+unfolding enclosed
+spelt-enclosed {p = p} {s} inner =
+    record {
+      sounds = from-enclosed inner.sounds;
+      complete = λ a r g.
+          ap (λ us. enclosed p (opening ∷ us)) (append_assoc (s a) (closing ∷ []) r)
+          ∙ goes_on spelt-opens tt tt _ _ _ (goes_on inner a g _ _ _ (goes_on spelt-closes tt tt _ _ _ refl));
+    }
+
+-- a name, and what is written for the values of that name
+module _ {A N : Type 0} {of : List ℕ → Option N} {word_for : N → List ℕ} {fields : N → Reads A} {name_of : A → N} {s : A → List Item} {Good : A → Type 0} (tells : Tells of word_for Any) (inner : (name : N) → Spelt (fields name) s (λ a. (name_of a ≡ name) × Good a)) where
+  behind-name : (name : N) → From (fields name) (λ a. word (word_for (name_of a)) ∷ s a) Good (word (word_for name) ∷ [])
+  behind-name name = record { whole = go }
+    where
+      go : (ts : List Item) (a : A) (r : List Item) → fields name ts ≡ got a r → (word (word_for name) ∷ ts ≡ word (word_for (name_of a)) ∷ (s a ++ r)) × Good a
+      go ts a r e =
+          let it = (inner name).sounds.whole ts a r e in
+          ((λ i. word (word_for (sym it.1.0 i)) ∷ it.0 i), it.1.1)
+
+  pub spelt-named : Spelt (then (means of) fields) (λ a. word (word_for (name_of a)) ∷ s a) Good
+  spelt-named =
+      record {
+        sounds = from_then (spelt-means tells).sounds (λ name _. behind-name name);
+        complete = λ a r g. goes_on (spelt-means tells) (name_of a) tt _ _ _ ((inner (name_of a)).complete a r (refl, g));
+      }

@@ -17,8 +17,8 @@ use Rattle.signalling.specs.declared.content.ReplyKind.TheVariants.{Ack, Acki, A
 use Rattle.script.specs.declared.form.Form.{Form}
 use Rattle.script.specs.declared.form.Form.TheVariants.{Make, Tune, Begin, Take, Sent, Held, Cancel, Slot}
 use Rattle.script.specs.declared.form.MakeForm.{MakeForm}
-use Rattle.script.specs.declared.form.ServiceName.{ServiceName}
-use Rattle.script.specs.declared.form.ServiceName.TheVariants.{Rqs, Rqr, Rqe}
+use Rattle.parts.specs.declared.choice.AnyService.{AnyService}
+use Rattle.parts.specs.declared.choice.AnyService.TheVariants.{Rqs, Rqr, Rqe}
 use Rattle.script.specs.declared.names.FormName.{FormName}
 use Rattle.script.specs.declared.names.FormName.TheVariants as form
 use Rattle.script.specs.declared.names.ContentName.{ContentName}
@@ -48,7 +48,7 @@ proper-numbers : (ns : List ℕ) → AllByRecursion Small ns → AllByRecursion 
 proper-numbers [] g = tt
 proper-numbers (n ∷ ns) g = (proper-number n g.0, proper-numbers ns g.1)
 
-proper-service : (s : ServiceName) → Proper (service_word s)
+proper-service : (s : AnyService) → Proper (service_word s)
 proper-service Rqs = refl
 proper-service Rqr = refl
 proper-service Rqe = refl
@@ -102,7 +102,7 @@ proper-content content.Other = refl
 proper_fields : (x : Content) → SmallContent x → AllByRecursion Proper (field_words x)
 proper_fields Deaf g = tt
 proper_fields (Data a b) g = (proper-number a g.0, (proper-number b g.1, tt))
-proper_fields (Aloha f a b c d) g = (proper-function f, (proper-number a g.0, (proper-number b g.1, (proper-number c g.2, (proper-number d g.3, tt)))))
+proper_fields (Aloha f a b c) g = (proper-function f, (proper-number a g.0, (proper-number b g.1, (proper-number c.qualifier g.2, (proper-number c.address g.3, tt)))))
 proper_fields (Reply k a b f c) g = (proper-kind k, (proper-number a g.0, (proper-number b g.1, (proper-first f g.2, (proper-number c g.3, tt)))))
 proper_fields (Go a b c d) g = (proper-number a g.0, (proper-number b g.1, (proper-number c g.2, (proper-number d g.3, tt))))
 proper_fields (Ahy a b) g = (proper-number a g.0, (proper-number b g.1, tt))
@@ -110,7 +110,7 @@ proper_fields (Ahyq a b) g = (proper-number a g.0, (proper-number b g.1, tt))
 proper_fields (Head a) g = (proper-number a g, tt)
 proper_fields Mark g = tt
 proper_fields Bcast g = tt
-proper_fields (Move a b c) g = (proper-number a g.0, (proper-number b g.1, (proper-number c g.2, tt)))
+proper_fields (Move a c) g = (proper-number a.qualifier g.0, (proper-number a.address g.1, (proper-number c g.2, tt)))
 proper_fields Other g = tt
 
 -- tidy items with no word ahead
@@ -150,10 +150,10 @@ segment_heard (Some n) x g h = segment-append (segment-spaced (decimal n ∷ [])
 segment_make : (m : MakeForm) → SmallMake m → Segment (make_items m)
 segment_make m g =
     segment-append
-    (segment-spaced (leading m) (proper-number m.address g.address, (proper-number m.channel g.channel, (proper-number m.nr g.nr, (proper-number m.tc g.tc, (proper-number m.ts g.ts, (proper-number m.tj g.tj, (proper-number m.nw g.nw, tt))))))))
+    (segment-spaced (leading m) (proper-number m.card.address g.address, (proper-number m.channel g.channel, (proper-number m.card.nr g.nr, (proper-number m.card.tc g.tc, (proper-number m.card.ts g.ts, (proper-number m.card.tj g.tj, (proper-number m.card.nw g.nw, tt))))))))
     (segment-space
     (segment-append
-    (segment-bracketed (codes "mask") refl (segment-spaced (decimal m.mask ∷ decimal m.value ∷ []) (proper-number m.mask g.mask, (proper-number m.value g.its, tt))))
+    (segment-bracketed (codes "mask") refl (segment-spaced (decimal m.plan.mask ∷ decimal m.plan.value ∷ []) (proper-number m.plan.mask g.mask, (proper-number m.plan.value g.its, tt))))
     (segment-space (segment-bracketed (codes "draws") refl (segment-spaced (map decimal (to_draw m.draws)) (proper-numbers (to_draw m.draws) g.draws.all))))))
 
 segment-form : (f : Form) → Writable f → Segment (form_items f)

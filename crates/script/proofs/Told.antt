@@ -13,18 +13,14 @@ use Rattle.signalling.specs.declared.content.Function.{Function}
 use Rattle.signalling.specs.declared.content.Function.TheVariants.{Alh, Alhs, Alhd, Alhe, Alhr, Alhx, Alhf, Unknown}
 use Rattle.signalling.specs.declared.content.ReplyKind.{ReplyKind}
 use Rattle.signalling.specs.declared.content.ReplyKind.TheVariants.{Ack, Acki, Ackx, Ackv, Acke, Acko}
-use Rattle.script.specs.declared.form.ServiceName.{ServiceName}
-use Rattle.script.specs.declared.form.ServiceName.TheVariants.{Rqs, Rqr, Rqe}
+use Rattle.parts.specs.declared.choice.AnyService.{AnyService}
+use Rattle.parts.specs.declared.choice.AnyService.TheVariants.{Rqs, Rqr, Rqe}
 use Rattle.script.specs.declared.names.FormName.{FormName}
 use Rattle.script.specs.declared.names.FormName.TheVariants as form
 use Rattle.script.specs.declared.names.ContentName.{ContentName}
 use Rattle.script.specs.declared.names.ContentName.TheVariants as content
-use Rattle.script.specs.declared.names.MaskName.{MaskName}
-use Rattle.script.specs.declared.names.MaskName.TheVariants.{Mask}
-use Rattle.script.specs.declared.names.DrawsName.{DrawsName}
-use Rattle.script.specs.declared.names.DrawsName.TheVariants as draws
-use Rattle.script.specs.Words.{named, service_of, function_of, kind_of, form_of, content_of, mask_of, draws_of, is_number, number_in, first_of, service_words, function_words, kind_words, form_words, content_words, mask_words, draws_words}
-use Rattle.script.specs.Writing.{Small, service_word, function_word, kind_word, first_word, SmallFirst, form_word, content_word, mask_word, draws_word}
+use Rattle.script.specs.Words.{named, service_of, function_of, kind_of, form_of, content_of, only, is_number, number_in, first_of, service_words, function_words, kind_words, form_words, content_words}
+use Rattle.script.specs.Writing.{Small, service_word, function_word, kind_word, first_word, SmallFirst, form_word, content_word}
 use Rattle.script.proofs.Numerals.{plain_decimal, number-plain, plain_from_test, test_from_plain}
 
 -- a word stands for a value exactly where it is the word that is written for it
@@ -54,7 +50,7 @@ tells_table word_for rows all each = record { sound = λ bs a e. (named-sound wo
 pub tells-service : Tells service_of service_word Any
 tells-service = tells_table service_word service_words (refl, (refl, (refl, tt))) each
   where
-    each : (a : ServiceName) → service_of (service_word a) ≡ Some a
+    each : (a : AnyService) → service_of (service_word a) ≡ Some a
     each Rqs = refl
     each Rqr = refl
     each Rqe = refl
@@ -113,17 +109,8 @@ tells-content = tells_table content_word content_words (refl, (refl, (refl, (ref
     each content.Move = refl
     each content.Other = refl
 
-pub tells-mask : Tells mask_of mask_word Any
-tells-mask = tells_table mask_word mask_words (refl, tt) each
-  where
-    each : (a : MaskName) → mask_of (mask_word a) ≡ Some a
-    each Mask = refl
-
-pub tells-draws : Tells draws_of draws_word Any
-tells-draws = tells_table draws_word draws_words (refl, tt) each
-  where
-    each : (a : DrawsName) → draws_of (draws_word a) ≡ Some a
-    each draws.Draws = refl
+pub tells-only : (name : List ℕ) → Tells (only name) (λ _. name) Any
+tells-only name = tells_table (λ _. name) ((name, tt) ∷ []) (refl, tt) (λ _. ap (λ b. cond b (Some tt) None) ((bytes_eq-Decides name name).1 refl))
 
 pub tells-number : Tells number_in decimal Small
 tells-number = record { sound = λ bs n e. sound bs n e (is_number bs) refl; complete = complete }

@@ -5,12 +5,11 @@ use Rattle.script.specs.declared.fault.Fault.{Fault}
 use Rattle.script.specs.declared.fault.Fault.TheVariants.{Malformed, LineTooLong}
 use Rattle.script.specs.declared.form.Form.{Form}
 use Rattle.script.specs.declared.reader.Reader.{Reader}
-use Rattle.script.specs.declared.names.FormName.{FormName}
 use Rattle.script.specs.Cursor.{line_of, rest, Follows}
 use Rattle.script.specs.Items.{Item, opening, closing, space, word, end, items, joined, spell}
 use Rattle.script.specs.Judged.{judged, reading}
-use Rattle.script.specs.Reading.{Out, Reads, got, stuck, at_end, bind, closes, ends, gives, means, opens, then}
-use Rattle.script.specs.Script.{alone, form, form_fields, last, line}
+use Rattle.script.specs.Reading.{Out, Reads, got, stuck, at_end, bind, closes, enclosed, ends, gives, means, opens, then}
+use Rattle.script.specs.Script.{form, form_fields, last, line}
 use Rattle.script.specs.Words.{form_of}
 use Rattle.script.proofs.Lawful.{bind_assoc}
 
@@ -84,16 +83,17 @@ shut-last f ts = bind_assoc closes (λ _. gives f) (λ x. then at_end (λ _. giv
 
 -- the name of a line's form, and the form up to the end
 abbrev pub named : Reads Form
-named = then opens (λ _. then (means form_of) (λ name. alone (form_fields name)))
+named = then opens (λ _. then (means form_of) (λ name. then (form_fields name) (λ f. then last (λ _. gives f))))
 
 there_named : (ts : List Item) → form_there ts ≡ named ts
-unfolding form then
+unfolding form enclosed then
 there_named ts =
     let m : Form → Reads Form = λ x. then at_end (λ _. gives x) in
-    let fields : (name : FormName) → Reads Form = λ name. then (form_fields name) (λ f. then closes (λ _. gives f)) in
-    bind_assoc opens (λ _. then (means form_of) fields) m ts
-    ∙ alike (λ _ us. bind_assoc (means form_of) fields m us
-    ∙ alike (λ name vs. bind_assoc (form_fields name) (λ f. then closes (λ _. gives f)) m vs ∙ alike shut-last (form_fields name vs)) (means form_of us)) (opens ts)
+    let close : Form → Reads Form = λ f. then closes (λ _. gives f) in
+    bind_assoc opens (λ _. then (then (means form_of) form_fields) close) m ts
+    ∙ alike (λ _ us. bind_assoc (then (means form_of) form_fields) close m us
+    ∙ bind_assoc (means form_of) form_fields (λ f. then (close f) m) us
+    ∙ alike (λ name vs. alike shut-last (form_fields name vs)) (means form_of us)) (opens ts)
 
 -- the answer to a line is what a reader at its start reads
 pub whole-line : {a b : Reader} (r : Result Form Fault) → Follows named a b r → a.pos ≡ 0 → length (line_of a) ≤ 200 → r ≡ reading (line_of a)

@@ -4,9 +4,11 @@ use Rattle.script.specs.declared.fault.Fault.{Fault}
 use Rattle.script.specs.declared.fault.Fault.TheVariants.{Malformed}
 use Rattle.script.specs.declared.reader.Reader.{Reader}
 use Rattle.script.specs.declared.reader.Item.{Item as Seen}
-use Rattle.script.specs.declared.reader.Item.TheVariants.{Open, Close, Space, Word, End}
+use Rattle.script.specs.declared.reader.Item.TheVariants as seen
+use Rattle.script.specs.declared.reader.Sign.{Sign}
+use Rattle.script.specs.declared.reader.Sign.TheVariants.{Open, Close, Space}
 use Rattle.script.specs.Items.{Item, opening, closing, space, word, end, items}
-use Rattle.script.specs.Reading.{Out, got, stuck, Reads}
+use Rattle.script.specs.Reading.{Out, got, stuck, Reads, closes, opens, parts}
 
 -- the bytes of a reader's line
 abbrev pub line_of : Reader → List ℕ
@@ -18,27 +20,33 @@ rest r = items (drop r.pos (line_of r))
 
 -- how many bytes of the line an item is
 abbrev pub width : Seen → ℕ
-width Open = 1
-width Close = 1
-width Space = 1
-width (Word bytes place) = length bytes.now
-width End = 0
+width (seen.Sign sign) = 1
+width (seen.Word bytes place) = length bytes.now
+width seen.End = 0
+
+-- the way to read a sign
+abbrev pub passes : Sign → Reads (Unit {0})
+passes Open = opens
+passes Close = closes
+passes Space = parts
 
 -- the place that a word tells; another item tells none, and is taken to be where it is
 abbrev pub place_in : Seen → ℕ → ℕ
-place_in Open here = here
-place_in Close here = here
-place_in Space here = here
-place_in (Word bytes place) here = place
-place_in End here = here
+place_in (seen.Sign sign) here = here
+place_in (seen.Word bytes place) here = place
+place_in seen.End here = here
+
+-- the item that a sign is
+abbrev pub item_of : Sign → Item
+item_of Open = opening
+item_of Close = closing
+item_of Space = space
 
 -- the items that begin with the one seen; none stand behind the end
 abbrev pub ahead : Seen → List Item → List Item
-ahead Open ts = opening ∷ ts
-ahead Close ts = closing ∷ ts
-ahead Space ts = space ∷ ts
-ahead (Word bytes place) ts = word bytes.now ∷ ts
-ahead End ts = end ∷ []
+ahead (seen.Sign sign) ts = item_of sign ∷ ts
+ahead (seen.Word bytes place) ts = word bytes.now ∷ ts
+ahead seen.End ts = end ∷ []
 
 -- what a result says of reading, with the items that are left
 abbrev pub outcome : {A : Type 0} → Result A Fault → List Item → Out A

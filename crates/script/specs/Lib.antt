@@ -3,10 +3,12 @@ pub mod Cursor
 pub mod Decimal
 pub mod Faults
 pub mod Inside
+pub mod Inward
 pub mod Items
 pub mod Judged
 pub mod ReadAs
 pub mod Reading
 pub mod Script
+pub mod Shut
 pub mod Words
 pub mod Writing

@@ -87,6 +87,14 @@ means of (end ∷ ts) = stuck (end ∷ ts)
 unfoldable pub field : {A : Type 0} → (List ℕ → Option A) → Reads A
 field of = then parts (λ _. means of)
 
+-- a form between brackets
+unfoldable pub enclosed : {A : Type 0} → Reads A → Reads A
+enclosed p = then opens (λ _. then p (λ v. then closes (λ _. gives v)))
+
+-- a space and such a form
+unfoldable pub enclosed_field : {A : Type 0} → Reads A → Reads A
+enclosed_field p = then parts (λ _. enclosed p)
+
 -- nothing where a bracket opens, and else something
 abbrev pub unless_open : {A : Type 0} → A → Reads A → Reads A
 unless_open none p [] = p []

@@ -1,10 +1,13 @@
 -- The script's language: how each form is read.
-use Rattle.std.specs.Prelude.{ℕ, zero, suc, min, List, [], ◌∷◌, length, Some, None, Option}
+use Rattle.std.specs.Prelude.{ℕ, zero, suc, min, List, [], ◌∷◌, length, Some, None, codes, Option}
 use Rattle.std.proofs.Math.Nat.{min-le_right}
+use Rattle.parts.specs.declared.plan.MaskPlan.{MaskPlan}
 use Rattle.signalling.specs.declared.content.Content.{Content}
 use Rattle.signalling.specs.declared.content.Content.TheVariants as heard
 use Rattle.signalling.specs.declared.content.Heard.{Heard}
-use Rattle.script.specs.declared.draws.Draws.{Draws}
+use Rattle.signalling.specs.declared.division.Division.{Division}
+use Rattle.signalling.specs.Division.{division}
+use Rattle.parts.specs.declared.few_numbers.FewNumbers.{FewNumbers}
 use Rattle.script.specs.declared.form.Form.{Form}
 use Rattle.script.specs.declared.form.Form.TheVariants as said
 use Rattle.script.specs.declared.form.MakeForm.{MakeForm}
@@ -12,8 +15,8 @@ use Rattle.script.specs.declared.names.ContentName.{ContentName}
 use Rattle.script.specs.declared.names.ContentName.TheVariants.{Deaf, Data, Aloha, Reply, Go, Ahy, Ahyq, Head, Mark, Bcast, Move, Other}
 use Rattle.script.specs.declared.names.FormName.{FormName}
 use Rattle.script.specs.declared.names.FormName.TheVariants.{Make, Tune, Begin, Take, Sent, Held, Cancel, Slot}
-use Rattle.script.specs.Reading.{Reads, after_space, at_end, closes, ends, field, gives, means, opens, parts, then, unless_open}
-use Rattle.script.specs.Words.{content_of, draws_of, first_of, form_of, function_of, kind_of, mask_of, number_in, service_of}
+use Rattle.script.specs.Reading.{Reads, after_space, at_end, closes, enclosed, enclosed_field, ends, field, gives, means, parts, then, unless_open}
+use Rattle.script.specs.Words.{content_of, first_of, form_of, function_of, kind_of, number_in, only, service_of}
 
 -- a number behind a space
 abbrev pub number : Reads ℕ
@@ -27,9 +30,13 @@ two = then number (λ a. then number (λ b. gives (a, b)))
 unfoldable pub data_fields : Reads Content
 data_fields = then two (λ x. gives (heard.Data x.0 x.1))
 
--- function, Aloha number, WT, address qualifier and address
+-- address qualifier and address
+unfoldable pub division_fields : Reads Division
+division_fields = then two (λ x. gives (division x.0 x.1))
+
+-- function, Aloha number, WT and division
 unfoldable pub aloha_fields : Reads Content
-aloha_fields = then (field function_of) (λ fn. then two (λ x. then two (λ y. gives (heard.Aloha fn x.0 x.1 y.0 y.1))))
+aloha_fields = then (field function_of) (λ fn. then two (λ x. then division_fields (λ d. gives (heard.Aloha fn x.0 x.1 d))))
 
 -- kind, qualifier, Aloha number, first ident and address
 unfoldable pub reply_fields : Reads Content
@@ -52,9 +59,9 @@ ahyq_fields = then two (λ x. gives (heard.Ahyq x.0 x.1))
 unfoldable pub head_fields : Reads Content
 head_fields = then number (λ to. gives (heard.Head to))
 
--- address qualifier, address and channel
+-- division and channel
 unfoldable pub move_fields : Reads Content
-move_fields = then two (λ x. then number (λ channel. gives (heard.Move x.0 x.1 channel)))
+move_fields = then division_fields (λ d. then number (λ channel. gives (heard.Move d channel)))
 
 -- what follows the first word of a content
 abbrev pub content_fields : ContentName → Reads Content
@@ -71,17 +78,21 @@ content_fields Bcast = gives heard.Bcast
 content_fields Move = move_fields
 content_fields Other = gives heard.Other
 
+-- a content between its brackets
+unfoldable pub content_within : Reads Content
+content_within = then (means content_of) content_fields
+
 -- a content in its brackets
-unfoldable pub content : Reads Content
-content = then opens (λ _. then (means content_of) (λ name. then (content_fields name) (λ c. then closes (λ _. gives c))))
+abbrev pub content : Reads Content
+content = enclosed content_within
 
--- a mask and its value in brackets
-abbrev pub mask_form : Reads (ℕ × ℕ)
-mask_form = then opens (λ _. then (means mask_of) (λ _. then two (λ x. then closes (λ _. gives x))))
+-- a mask and its value behind their word
+unfoldable pub mask_within : Reads MaskPlan
+mask_within = then (means (only (codes "mask"))) (λ _. then two (λ x. gives (record { mask = x.0; value = x.1 })))
 
--- the same behind a space
-unfoldable pub mask : Reads (ℕ × ℕ)
-mask = then parts (λ _. mask_form)
+-- the same in brackets, behind a space
+abbrev pub mask : Reads MaskPlan
+mask = enclosed_field mask_within
 
 -- numbers, so many at most, each behind a space
 unfoldable pub numbers : ℕ → Reads (List ℕ)
@@ -95,26 +106,35 @@ padded (suc k) [] = 0 ∷ padded k []
 padded (suc k) (n ∷ ns) = n ∷ padded k ns
 
 -- sixteen places for the draws
-abbrev pub drawn : List ℕ → Draws
-drawn ns = record { numbers = padded 16 ns; count = min (length ns) 16; few = min-le_right (length ns) 16 }
+abbrev pub drawn : List ℕ → FewNumbers
+drawn ns = record { numbers = padded 16 ns; count = min (length ns) 16 }
+
+-- the same numbers, of which the first sixteen count: a set is made of no more, and no more are read
+abbrev pub sixteen : FewNumbers → FewNumbers
+sixteen d = record { numbers = d.numbers; count = min d.count 16 }
 
 -- up to sixteen numbers
-unfoldable pub drawing : Reads Draws
+unfoldable pub drawing : Reads FewNumbers
 drawing = then (numbers 16) (λ ns. gives (drawn ns))
 
--- draws in brackets
-abbrev pub draws_form : Reads Draws
-draws_form = then opens (λ _. then (means draws_of) (λ _. then drawing (λ d. then closes (λ _. gives d))))
+-- draws behind their word
+unfoldable pub draws_within : Reads FewNumbers
+draws_within = then (means (only (codes "draws"))) (λ _. drawing)
 
--- the same behind a space
-unfoldable pub draws : Reads Draws
-draws = then parts (λ _. draws_form)
+-- the same in brackets, behind a space
+abbrev pub draws : Reads FewNumbers
+draws = enclosed_field draws_within
+
+-- what a set is made of, by what is read
+abbrev pub making : ℕ × ℕ → ℕ × ℕ → ℕ × ℕ → ℕ → MaskPlan → FewNumbers → MakeForm
+making x y z w m d =
+    record { card = record { address = x.0; nr = y.0; tc = y.1; ts = z.0; tj = z.1; nw = w }; channel = x.1; plan = m; draws = sixteen d; few = min-le_right d.count 16 }
 
 -- the numbers of a set, its mask and its draws
 unfoldable pub make_fields : Reads MakeForm
 make_fields =
     then two (λ x. then two (λ y. then two (λ z. then number (λ w. then mask (λ m. then draws (λ d.
-    gives (record { address = x.0; channel = x.1; nr = y.0; tc = y.1; ts = z.0; tj = z.1; nw = w; mask = m.0; value = m.1; draws = d })))))))
+    gives (making x y z w m d)))))))
 
 -- a system code and the space behind it
 abbrev pub some_code : Reads (Option ℕ)
@@ -141,7 +161,7 @@ form_fields Slot = then heard_fields (λ h. gives (said.Slot h))
 
 -- a form in its brackets
 unfoldable pub form : Reads Form
-form = then opens (λ _. then (means form_of) (λ name. then (form_fields name) (λ f. then closes (λ _. gives f))))
+form = enclosed (then (means form_of) form_fields)
 
 -- a whole line: a form, and the end
 unfoldable pub line : Reads Form
@@ -150,7 +170,3 @@ line = then form (λ f. then ends (λ _. gives f))
 -- the bracket that closes a line's form, and the end behind it
 abbrev pub last : Reads (Unit {0})
 last = then closes (λ _. at_end)
-
--- a form that is read up to the end of its line
-abbrev pub alone : Reads Form → Reads Form
-alone p = then p (λ f. then last (λ _. gives f))

@@ -9,16 +9,12 @@ use Rattle.signalling.specs.declared.content.Function.{Function}
 use Rattle.signalling.specs.declared.content.Function.TheVariants as function
 use Rattle.signalling.specs.declared.content.ReplyKind.{ReplyKind}
 use Rattle.signalling.specs.declared.content.ReplyKind.TheVariants as kind
-use Rattle.script.specs.declared.form.ServiceName.{ServiceName}
-use Rattle.script.specs.declared.form.ServiceName.TheVariants as service
+use Rattle.parts.specs.declared.choice.AnyService.{AnyService}
+use Rattle.parts.specs.declared.choice.AnyService.TheVariants as service
 use Rattle.script.specs.declared.names.FormName.{FormName}
 use Rattle.script.specs.declared.names.FormName.TheVariants as form
 use Rattle.script.specs.declared.names.ContentName.{ContentName}
 use Rattle.script.specs.declared.names.ContentName.TheVariants as content
-use Rattle.script.specs.declared.names.MaskName.{MaskName}
-use Rattle.script.specs.declared.names.MaskName.TheVariants as mask
-use Rattle.script.specs.declared.names.DrawsName.{DrawsName}
-use Rattle.script.specs.declared.names.DrawsName.TheVariants as draws
 
 -- the value beside a word in a table
 abbrev pub named : {A : Type 0} → List (List ℕ × A) → List ℕ → Option A
@@ -26,11 +22,11 @@ named [] bs = None
 named (row ∷ rows) bs = cond (bytes_eq bs row.0) (Some row.1) (named rows bs)
 
 -- the services
-abbrev pub service_words : List (List ℕ × ServiceName)
+abbrev pub service_words : List (List ℕ × AnyService)
 service_words =
     (codes "rqs", service.Rqs) ∷ (codes "rqr", service.Rqr) ∷ (codes "rqe", service.Rqe) ∷ []
 
-abbrev pub service_of : List ℕ → Option ServiceName
+abbrev pub service_of : List ℕ → Option AnyService
 service_of = named service_words
 
 -- the Aloha functions
@@ -65,21 +61,9 @@ content_words =
 abbrev pub content_of : List ℕ → Option ContentName
 content_of = named content_words
 
--- the word before a mask and its value
-abbrev pub mask_words : List (List ℕ × MaskName)
-mask_words =
-    (codes "mask", mask.Mask) ∷ []
-
-abbrev pub mask_of : List ℕ → Option MaskName
-mask_of = named mask_words
-
--- the word before the draws
-abbrev pub draws_words : List (List ℕ × DrawsName)
-draws_words =
-    (codes "draws", draws.Draws) ∷ []
-
-abbrev pub draws_of : List ℕ → Option DrawsName
-draws_of = named draws_words
+-- the word that is wanted, and no other
+abbrev pub only : List ℕ → List ℕ → Option (Unit {0})
+only name = named ((name, tt) ∷ [])
 
 -- one to seven digits, and no needless zero in front
 abbrev pub is_number : List ℕ → Bool

@@ -1,6 +1,7 @@
 -- How a form is written: the words for its values, and the items of its line.
 use Rattle.std.specs.Prelude.{◌≡◌, ℕ, ◌^◌, ◌<◌, List, [], ◌∷◌, ◌++◌, map, take, Some, None, codes, decimal, Option}
 use Rattle.std.specs.List.{AllByRecursion}
+use Rattle.parts.specs.declared.plan.MaskPlan.{MaskPlan}
 use Rattle.signalling.specs.declared.content.Content.{Content}
 use Rattle.signalling.specs.declared.content.Content.TheVariants.{Deaf, Data, Aloha, Reply, Go, Ahy, Ahyq, Head, Mark, Bcast, Move, Other}
 use Rattle.signalling.specs.declared.content.Heard.{Heard}
@@ -10,20 +11,16 @@ use Rattle.signalling.specs.declared.content.Function.{Function}
 use Rattle.signalling.specs.declared.content.Function.TheVariants.{Alh, Alhs, Alhd, Alhe, Alhr, Alhx, Alhf, Unknown}
 use Rattle.signalling.specs.declared.content.ReplyKind.{ReplyKind}
 use Rattle.signalling.specs.declared.content.ReplyKind.TheVariants.{Ack, Acki, Ackx, Ackv, Acke, Acko}
-use Rattle.script.specs.declared.draws.Draws.{Draws}
+use Rattle.parts.specs.declared.few_numbers.FewNumbers.{FewNumbers}
 use Rattle.script.specs.declared.form.Form.{Form}
 use Rattle.script.specs.declared.form.Form.TheVariants.{Make, Tune, Begin, Take, Sent, Held, Cancel, Slot}
 use Rattle.script.specs.declared.form.MakeForm.{MakeForm}
-use Rattle.script.specs.declared.form.ServiceName.{ServiceName}
-use Rattle.script.specs.declared.form.ServiceName.TheVariants.{Rqs, Rqr, Rqe}
+use Rattle.parts.specs.declared.choice.AnyService.{AnyService}
+use Rattle.parts.specs.declared.choice.AnyService.TheVariants.{Rqs, Rqr, Rqe}
 use Rattle.script.specs.declared.names.FormName.{FormName}
 use Rattle.script.specs.declared.names.FormName.TheVariants as form
 use Rattle.script.specs.declared.names.ContentName.{ContentName}
 use Rattle.script.specs.declared.names.ContentName.TheVariants as content
-use Rattle.script.specs.declared.names.MaskName.{MaskName}
-use Rattle.script.specs.declared.names.MaskName.TheVariants.{Mask}
-use Rattle.script.specs.declared.names.DrawsName.{DrawsName}
-use Rattle.script.specs.declared.names.DrawsName.TheVariants as draws
 use Rattle.script.specs.Items.{Item, opening, closing, space, word, end}
 use Rattle.script.specs.Script.{padded}
 
@@ -32,7 +29,7 @@ abbrev pub Small : ℕ → Type 0
 Small n = n < 10 ^ 7
 
 -- the word for a service
-abbrev pub service_word : ServiceName → List ℕ
+abbrev pub service_word : AnyService → List ℕ
 service_word Rqs = codes "rqs"
 service_word Rqr = codes "rqr"
 service_word Rqe = codes "rqe"
@@ -93,14 +90,6 @@ content_word content.Bcast = codes "bcast"
 content_word content.Move = codes "move"
 content_word content.Other = codes "other"
 
--- the word before a mask
-abbrev pub mask_word : MaskName → List ℕ
-mask_word Mask = codes "mask"
-
--- the word before the draws
-abbrev pub draws_word : DrawsName → List ℕ
-draws_word draws.Draws = codes "draws"
-
 -- words, each behind a space
 abbrev pub spaced : List (List ℕ) → List Item
 spaced [] = []
@@ -114,7 +103,7 @@ bracketed first inner = opening ∷ word first ∷ (inner ++ closing ∷ [])
 abbrev pub content_name : Content → ContentName
 content_name Deaf = content.Deaf
 content_name (Data rsa mine) = content.Data
-content_name (Aloha function n wt m address) = content.Aloha
+content_name (Aloha function n wt d) = content.Aloha
 content_name (Reply kind qual n first to) = content.Reply
 content_name (Go to partner channel n) = content.Go
 content_name (Ahy ad to) = content.Ahy
@@ -122,14 +111,14 @@ content_name (Ahyq ipfixi to) = content.Ahyq
 content_name (Head to) = content.Head
 content_name Mark = content.Mark
 content_name Bcast = content.Bcast
-content_name (Move m address channel) = content.Move
+content_name (Move d channel) = content.Move
 content_name Other = content.Other
 
 -- the words of a content behind its name
 abbrev pub field_words : Content → List (List ℕ)
 field_words Deaf = []
 field_words (Data rsa mine) = decimal rsa ∷ decimal mine ∷ []
-field_words (Aloha function n wt m address) = function_word function ∷ decimal n ∷ decimal wt ∷ decimal m ∷ decimal address ∷ []
+field_words (Aloha function n wt d) = function_word function ∷ decimal n ∷ decimal wt ∷ decimal d.qualifier ∷ decimal d.address ∷ []
 field_words (Reply kind qual n first to) = kind_word kind ∷ decimal qual ∷ decimal n ∷ first_word first ∷ decimal to ∷ []
 field_words (Go to partner channel n) = decimal to ∷ decimal partner ∷ decimal channel ∷ decimal n ∷ []
 field_words (Ahy ad to) = decimal ad ∷ decimal to ∷ []
@@ -137,14 +126,14 @@ field_words (Ahyq ipfixi to) = decimal ipfixi ∷ decimal to ∷ []
 field_words (Head to) = decimal to ∷ []
 field_words Mark = []
 field_words Bcast = []
-field_words (Move m address channel) = decimal m ∷ decimal address ∷ decimal channel ∷ []
+field_words (Move d channel) = decimal d.qualifier ∷ decimal d.address ∷ decimal channel ∷ []
 field_words Other = []
 
 -- each number of a content has at most seven digits
 abbrev pub SmallContent : Content → Type 0
 SmallContent Deaf = Unit {0}
 SmallContent (Data rsa mine) = Small rsa × Small mine
-SmallContent (Aloha function n wt m address) = Small n × Small wt × Small m × Small address
+SmallContent (Aloha function n wt d) = Small n × Small wt × Small d.qualifier × Small d.address
 SmallContent (Reply kind qual n first to) = Small qual × Small n × SmallFirst first × Small to
 SmallContent (Go to partner channel n) = Small to × Small partner × Small channel × Small n
 SmallContent (Ahy ad to) = Small ad × Small to
@@ -152,7 +141,7 @@ SmallContent (Ahyq ipfixi to) = Small ipfixi × Small to
 SmallContent (Head to) = Small to
 SmallContent Mark = Unit {0}
 SmallContent Bcast = Unit {0}
-SmallContent (Move m address channel) = Small m × Small address × Small channel
+SmallContent (Move d channel) = Small d.qualifier × Small d.address × Small channel
 SmallContent Other = Unit {0}
 
 -- a content as it is written
@@ -176,40 +165,40 @@ abbrev pub SmallHeard : Heard → Type 0
 SmallHeard h = SmallCode h.code × SmallContent h.content
 
 -- a mask and its value as they are written
-abbrev pub mask_items : ℕ → ℕ → List Item
-mask_items mask its = bracketed (codes "mask") (spaced (decimal mask ∷ decimal its ∷ []))
+abbrev pub mask_items : MaskPlan → List Item
+mask_items p = bracketed (codes "mask") (spaced (decimal p.mask ∷ decimal p.value ∷ []))
 
 -- the numbers to draw
-abbrev pub to_draw : Draws → List ℕ
+abbrev pub to_draw : FewNumbers → List ℕ
 to_draw d = take d.count d.numbers
 
 -- the draws as they are written
-abbrev pub draws_items : Draws → List Item
+abbrev pub draws_items : FewNumbers → List Item
 draws_items d = bracketed (codes "draws") (spaced (map decimal (to_draw d)))
 
 -- each number drawn has at most seven digits, and 0 stands in the places past them
-pub record SmallDraws (d : Draws) : Type 0 where
+pub record SmallDraws (d : FewNumbers) : Type 0 where
   pub all : AllByRecursion Small (to_draw d)
   pub past : d.numbers ≡ padded 16 (to_draw d)
 
 -- the words of the seven numbers before the mask
 abbrev pub leading : MakeForm → List (List ℕ)
-leading m = decimal m.address ∷ decimal m.channel ∷ decimal m.nr ∷ decimal m.tc ∷ decimal m.ts ∷ decimal m.tj ∷ decimal m.nw ∷ []
+leading m = decimal m.card.address ∷ decimal m.channel ∷ decimal m.card.nr ∷ decimal m.card.tc ∷ decimal m.card.ts ∷ decimal m.card.tj ∷ decimal m.card.nw ∷ []
 
 -- what a set is made of, as it is written
 abbrev pub make_items : MakeForm → List Item
-make_items m = spaced (leading m) ++ (space ∷ (mask_items m.mask m.value ++ (space ∷ draws_items m.draws)))
+make_items m = spaced (leading m) ++ (space ∷ (mask_items m.plan ++ (space ∷ draws_items m.draws)))
 
 pub record SmallMake (m : MakeForm) : Type 0 where
-  pub address : Small m.address
+  pub address : Small m.card.address
   pub channel : Small m.channel
-  pub nr : Small m.nr
-  pub tc : Small m.tc
-  pub ts : Small m.ts
-  pub tj : Small m.tj
-  pub nw : Small m.nw
-  pub mask : Small m.mask
-  pub its : Small m.value
+  pub nr : Small m.card.nr
+  pub tc : Small m.card.tc
+  pub ts : Small m.card.ts
+  pub tj : Small m.card.tj
+  pub nw : Small m.card.nw
+  pub mask : Small m.plan.mask
+  pub its : Small m.plan.value
   pub draws : SmallDraws m.draws
 
 -- the name of a form

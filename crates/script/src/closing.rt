@@ -9,6 +9,7 @@ fn form_end(line: &[u8], start: usize) -> Option<usize>
     requires opens { slice_index line.now start ≡ 40 }
     ensures { Closes line.now start result }
 {
+    // The index jumps over each inner form by the call for it, so that no iterator gives the places.
     let mut at = start + 1;
     while at < line.len() {
         match char::from(line[at]) {
@@ -25,10 +26,7 @@ fn form_end(line: &[u8], start: usize) -> Option<usize>
 pub fn closing(line: &[u8], start: usize) -> Option<usize>
     ensures { Closes line.now start result }
 {
-    if start >= line.len() {
-        return None;
-    }
-    match char::from(line[start]) {
+    match char::from(*line.get(start)?) {
         '(' => form_end(line, start),
         _ => None,
     }

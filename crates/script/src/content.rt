@@ -1,35 +1,42 @@
 // Contents: what was heard in a slot.
 ghost use Rattle.script.specs.Cursor.{Follows};
-ghost use Rattle.script.specs.Script.{ahy_fields, ahyq_fields, aloha_fields, content, content_fields, data_fields, go_fields, head_fields, move_fields, reply_fields};
+ghost use Rattle.script.specs.Script.{aloha_fields, content_fields, content_within, division_fields, go_fields, move_fields, reply_fields};
+ghost use Rattle.script.specs.Shut.{content-shut};
 
 use crate::fault::Fault;
+use crate::inner::InnerForm;
 use crate::names::ContentName;
 use crate::reader::Reader;
 use signalling::content::{Content, FirstIdent, Function, ReplyKind};
+use signalling::division::Division;
 
 impl Reader<'_> {
-    fn data_fields(&mut self) -> Result<Content, Fault>
-        ensures { Follows data_fields self.old self.new result }
+    // An address qualifier and an address.
+    fn division(&mut self) -> Result<Division, Fault>
+        ensures { Follows division_fields self.old self.new result }
     {
-        let (rsa, mine) = self.two()?;
-        Ok(Content::Data { rsa, mine })
+        self.two()
+            .map(|(qualifier, address)| Division { qualifier, address })
     }
 
+    // What follows `aloha`: the function, the Aloha number N, the response delay WT, and the division
+    // that M and the address name.
     fn aloha_fields(&mut self) -> Result<Content, Fault>
         ensures { Follows aloha_fields self.old self.new result }
     {
         let function: Function = self.field()?;
         let (number, wt) = self.two()?;
-        let (qualifier, address) = self.two()?;
+        let division = self.division()?;
         Ok(Content::Aloha {
             function,
             number,
             wt,
-            qualifier,
-            address,
+            division,
         })
     }
 
+    // What follows `reply`: the kind of acknowledgement, its qualifier, the Aloha number, the first
+    // ident and the address replied to.
     fn reply_fields(&mut self) -> Result<Content, Fault>
         ensures { Follows reply_fields self.old self.new result }
     {
@@ -46,6 +53,7 @@ impl Reader<'_> {
         })
     }
 
+    // What follows `go`: the two addresses of the call, its channel, and the Aloha number.
     fn go_fields(&mut self) -> Result<Content, Fault>
         ensures { Follows go_fields self.old self.new result }
     {
@@ -59,37 +67,13 @@ impl Reader<'_> {
         })
     }
 
-    fn ahy_fields(&mut self) -> Result<Content, Fault>
-        ensures { Follows ahy_fields self.old self.new result }
-    {
-        let (ad, to) = self.two()?;
-        Ok(Content::Ahy { ad, to })
-    }
-
-    fn ahyq_fields(&mut self) -> Result<Content, Fault>
-        ensures { Follows ahyq_fields self.old self.new result }
-    {
-        let (ipfixi, to) = self.two()?;
-        Ok(Content::Ahyq { ipfixi, to })
-    }
-
-    fn head_fields(&mut self) -> Result<Content, Fault>
-        ensures { Follows head_fields self.old self.new result }
-    {
-        let to: u32 = self.field()?;
-        Ok(Content::Head { to })
-    }
-
+    // What follows `move`: the division that M and the address name, and the new control channel.
     fn move_fields(&mut self) -> Result<Content, Fault>
         ensures { Follows move_fields self.old self.new result }
     {
-        let (qualifier, address) = self.two()?;
+        let division = self.division()?;
         let channel: u32 = self.field()?;
-        Ok(Content::Move {
-            qualifier,
-            address,
-            channel,
-        })
+        Ok(Content::Move { division, channel })
     }
 
     // What follows the first word of a content.
@@ -98,38 +82,29 @@ impl Reader<'_> {
     {
         match name {
             ContentName::Deaf => Ok(Content::Deaf),
-            ContentName::Data => self.data_fields(),
+            ContentName::Data => self.two().map(|(rsa, mine)| Content::Data { rsa, mine }),
             ContentName::Aloha => self.aloha_fields(),
             ContentName::Reply => self.reply_fields(),
             ContentName::Go => self.go_fields(),
-            ContentName::Ahy => self.ahy_fields(),
-            ContentName::Ahyq => self.ahyq_fields(),
-            ContentName::Head => self.head_fields(),
+            ContentName::Ahy => self.two().map(|(ad, to)| Content::Ahy { ad, to }),
+            ContentName::Ahyq => self.two().map(|(ipfixi, to)| Content::Ahyq { ipfixi, to }),
+            ContentName::Head => self.field().map(|to| Content::Head { to }),
             ContentName::Mark => Ok(Content::Mark),
             ContentName::Bcast => Ok(Content::Bcast),
             ContentName::Move => self.move_fields(),
             ContentName::Other => Ok(Content::Other),
         }
     }
+}
 
-    // A content in its brackets.
-    fn content_form(&mut self) -> Result<Content, Fault>
-        ensures { Follows content self.old self.new result }
-    {
-        self.open()?;
-        let name: ContentName = self.word()?;
-        let content = self.content_fields(name)?;
-        self.close()?;
-        Ok(content)
-    }
+// A content in its brackets.
+impl InnerForm for Content {
+    ghost within = { content_within };
 
-    // A content, read as a line of its own.
-    pub(crate) fn content(&mut self) -> Result<Content, Fault>
-        ensures { Follows content self.old self.new result }
-    {
-        let mut inner = self.inner();
-        let content = inner.content_form();
-        self.pos = inner.pos;
-        content
+    ghost shut = { content-shut };
+
+    fn read_within(reader: &mut Reader<'_>) -> Result<Content, Fault> {
+        let name: ContentName = reader.word()?;
+        reader.content_fields(name)
     }
 }

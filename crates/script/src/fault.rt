@@ -16,6 +16,7 @@ pub enum Fault {
 }
 
 impl Fault {
+    // The number of the fault. As a conversion to a number it would not say that it is not the place.
     pub fn number(self) -> u32
         ensures { result ≡ number_of self }
     {
@@ -27,6 +28,7 @@ impl Fault {
         }
     }
 
+    // The place of the fault: the byte of the line, counted from 1, or 0 where no line is at fault.
     pub fn place(self) -> usize
         ensures { result ≡ place_of self }
     {

@@ -1,28 +1,21 @@
 // The forms of a script: what one line says.
-use crate::draws::Draws;
+ghost use Rattle.std.specs.Prelude.{◌≤◌};
+
+use parts::choice::AnyService;
+use parts::few_numbers::FewNumbers;
+use parts::plan::MaskPlan;
+use rules::card::Card;
 use signalling::content::Heard;
 
-// A service that can be begun.
-#[derive(Clone, Copy)]
-pub enum ServiceName {
-    Rqs,
-    Rqr,
-    Rqe,
-}
-
-// What a set is made of, as the line has it.
+// What a set is made of, as the line has it. At most 16 numbers are drawn, the first `count` of
+// `draws`; a line that is read has 0 in the places behind them.
 #[derive(Clone, Copy)]
 pub struct MakeForm {
-    pub address: u32,
+    pub card: Card,
     pub channel: u32,
-    pub nr: u32,
-    pub tc: u32,
-    pub ts: u32,
-    pub tj: u32,
-    pub nw: u32,
-    pub mask: u32,
-    pub value: u32,
-    pub draws: Draws,
+    pub plan: MaskPlan,
+    pub draws: FewNumbers,
+    ghost few: { draws.count ≤ 16 },
 }
 
 // One line.
@@ -30,7 +23,7 @@ pub struct MakeForm {
 pub enum Form {
     Make(MakeForm),
     Tune { channel: u32 },
-    Begin { service: ServiceName },
+    Begin { service: AnyService },
     Take,
     Sent,
     Held,

@@ -1,10 +1,8 @@
 // The script's language: one bracketed form a line, in base ten.
 #![tactic(auto)]
 
-mod adding;
 pub mod closing;
 mod content;
-pub mod draws;
 pub mod fault;
 pub mod form;
 mod inner;

@@ -1,26 +1,25 @@
 // A whole line.
-ghost use Rattle.std.specs.Prelude.{◌≡◌, ◌≤◌, length, Some, None, Err};
+ghost use Rattle.std.specs.Prelude.{◌≡◌, ◌≤◌, length, Ok, Err};
 ghost use Rattle.script.specs.Cursor.{line_of, Follows};
 ghost use Rattle.script.specs.ReadAs.{ReadFrom};
-ghost use Rattle.script.specs.Reading.{gives};
-ghost use Rattle.script.specs.Script.{alone, code, form_fields, heard_fields, last};
+ghost use Rattle.script.specs.Script.{code, form_fields, heard_fields, last};
 
 use crate::fault::Fault;
-use crate::form::{Form, ServiceName};
+use crate::form::Form;
 use crate::names::FormName;
-use crate::reader::{Item, Reader};
-use signalling::content::Heard;
+use crate::reader::{Reader, Sign};
+use signalling::content::{Content, Heard};
 
 impl Reader<'_> {
     // A system code and the space behind it, unless a content stands there.
     fn code(&mut self) -> Result<Option<u32>, Fault>
         ensures { Follows code self.old self.new result }
     {
-        if let Item::Open = self.item() {
+        if self.is_at(Sign::Open) {
             return Ok(None);
         }
         let code: u32 = self.word()?;
-        self.space()?;
+        self.pass(Sign::Space)?;
         Ok(Some(code))
     }
 
@@ -28,9 +27,9 @@ impl Reader<'_> {
     fn heard_fields(&mut self) -> Result<Heard, Fault>
         ensures { Follows heard_fields self.old self.new result }
     {
-        self.space()?;
+        self.pass(Sign::Space)?;
         let code = self.code()?;
-        let content = self.content()?;
+        let content: Content = self.inner_form()?;
         Ok(Heard { code, content })
     }
 
@@ -38,63 +37,23 @@ impl Reader<'_> {
     fn last(&mut self) -> Result<(), Fault>
         ensures { Follows last self.old self.new result }
     {
-        self.close()?;
+        self.pass(Sign::Close)?;
         self.end()
     }
 
-    fn make_form(&mut self) -> Result<Form, Fault>
-        ensures { Follows (alone (form_fields FormName.Make)) self.old self.new result }
-    {
-        let make = self.make_fields()?;
-        self.last()?;
-        Ok(Form::Make(make))
-    }
-
-    fn tune_form(&mut self) -> Result<Form, Fault>
-        ensures { Follows (alone (form_fields FormName.Tune)) self.old self.new result }
-    {
-        let channel: u32 = self.field()?;
-        self.last()?;
-        Ok(Form::Tune { channel })
-    }
-
-    fn begin_form(&mut self) -> Result<Form, Fault>
-        ensures { Follows (alone (form_fields FormName.Begin)) self.old self.new result }
-    {
-        let service: ServiceName = self.field()?;
-        self.last()?;
-        Ok(Form::Begin { service })
-    }
-
-    fn slot_form(&mut self) -> Result<Form, Fault>
-        ensures { Follows (alone (form_fields FormName.Slot)) self.old self.new result }
-    {
-        let heard = self.heard_fields()?;
-        self.last()?;
-        Ok(Form::Slot(heard))
-    }
-
-    // A form without fields.
-    fn bare_form(&mut self, form: Form) -> Result<Form, Fault>
-        ensures { Follows (alone (gives form)) self.old self.new result }
-    {
-        self.last()?;
-        Ok(form)
-    }
-
-    // What follows the first word of a line's form, up to the end.
+    // What follows the first word of a line's form.
     fn form_fields(&mut self, name: FormName) -> Result<Form, Fault>
-        ensures { Follows (alone (form_fields name)) self.old self.new result }
+        ensures { Follows (form_fields name) self.old self.new result }
     {
         match name {
-            FormName::Make => self.make_form(),
-            FormName::Tune => self.tune_form(),
-            FormName::Begin => self.begin_form(),
-            FormName::Take => self.bare_form(Form::Take),
-            FormName::Sent => self.bare_form(Form::Sent),
-            FormName::Held => self.bare_form(Form::Held),
-            FormName::Cancel => self.bare_form(Form::Cancel),
-            FormName::Slot => self.slot_form(),
+            FormName::Make => self.make_fields().map(Form::Make),
+            FormName::Tune => self.field().map(|channel| Form::Tune { channel }),
+            FormName::Begin => self.field().map(|service| Form::Begin { service }),
+            FormName::Take => Ok(Form::Take),
+            FormName::Sent => Ok(Form::Sent),
+            FormName::Held => Ok(Form::Held),
+            FormName::Cancel => Ok(Form::Cancel),
+            FormName::Slot => self.heard_fields().map(Form::Slot),
         }
     }
 
@@ -103,20 +62,22 @@ impl Reader<'_> {
         requires { self.old.pos ≡ 0 }
         ensures { ReadFrom (line_of self.old) result }
     {
-        self.open()?;
+        self.pass(Sign::Open)?;
         let name: FormName = self.word()?;
-        self.form_fields(name)
+        let form = self.form_fields(name)?;
+        self.last()?;
+        Ok(form)
     }
 }
 
-// The fault of a line of over 200 bytes.
-fn too_long(line: &[u8]) -> Option<Fault>
-    ensures { elim result [ Some fault ↦ ReadFrom line.now (Err fault) | None ↦ length line.now ≤ 200 ] }
+// A line of over 200 bytes is not read.
+fn check_length(line: &[u8]) -> Result<(), Fault>
+    ensures { elim result [ Err fault ↦ ReadFrom line.now (Err fault) | Ok _ ↦ length line.now ≤ 200 ] }
 {
     if line.len() > 200 {
-        Some(Fault::LineTooLong)
+        Err(Fault::LineTooLong)
     } else {
-        None
+        Ok(())
     }
 }
 
@@ -124,8 +85,6 @@ fn too_long(line: &[u8]) -> Option<Fault>
 pub fn read(line: &[u8]) -> Result<Form, Fault>
     ensures { ReadFrom line.now result }
 {
-    match too_long(line) {
-        Some(fault) => Err(fault),
-        None => Reader { line, pos: 0 }.whole(),
-    }
+    check_length(line)?;
+    Reader { line, pos: 0 }.whole()
 }

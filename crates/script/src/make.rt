@@ -1,71 +1,58 @@
 // The form that makes a set.
 ghost use Rattle.script.specs.Cursor.{Follows};
-ghost use Rattle.script.specs.Script.{drawing, draws, draws_form, make_fields, mask, mask_form};
+ghost use Rattle.script.specs.Script.{drawing, draws_within, make_fields, mask_within};
+ghost use Rattle.script.specs.Shut.{draws-shut, mask-shut};
 
-use crate::draws::Draws;
 use crate::fault::Fault;
 use crate::form::MakeForm;
-use crate::names::{DrawsName, MaskName};
-use crate::reader::{Item, Reader};
+use crate::inner::InnerForm;
+use crate::reader::{Reader, Sign};
+use parts::few_numbers::FewNumbers;
+use parts::plan::MaskPlan;
+use rules::card::Card;
+
+// Mask and value in their brackets: `(mask MASK VALUE)`.
+impl InnerForm for MaskPlan {
+    ghost within = { mask_within };
+
+    ghost shut = { mask-shut };
+
+    fn read_within(reader: &mut Reader<'_>) -> Result<MaskPlan, Fault> {
+        reader.keyword("mask")?;
+        let (mask, value) = reader.two()?;
+        Ok(MaskPlan { mask, value })
+    }
+}
+
+// The draws in their brackets: `(draws N...)`.
+impl InnerForm for FewNumbers {
+    ghost within = { draws_within };
+
+    ghost shut = { draws-shut };
+
+    fn read_within(reader: &mut Reader<'_>) -> Result<FewNumbers, Fault> {
+        reader.keyword("draws")?;
+        reader.drawing()
+    }
+}
 
 impl Reader<'_> {
-    // Mask and value in their brackets: `(mask MASK VALUE)`.
-    fn mask_form(&mut self) -> Result<(u32, u32), Fault>
-        ensures { Follows mask_form self.old self.new result }
-    {
-        self.open()?;
-        let _name: MaskName = self.word()?;
-        let (mask, value) = self.two()?;
-        self.close()?;
-        Ok((mask, value))
-    }
-
-    // Mask and value behind a space, read as a line of their own.
-    fn mask(&mut self) -> Result<(u32, u32), Fault>
-        ensures { Follows mask self.old self.new result }
-    {
-        self.space()?;
-        let mut inner = self.inner();
-        let mask = inner.mask_form();
-        self.pos = inner.pos;
-        mask
-    }
-
     // Up to 16 numbers, each behind a space.
-    fn drawing(&mut self) -> Result<Draws, Fault>
+    fn drawing(&mut self) -> Result<FewNumbers, Fault>
         ensures { Follows drawing self.old self.new result }
     {
-        let mut draws = Draws::none();
-        while draws.count < 16 {
-            let Item::Space = self.item() else {
+        let mut draws = FewNumbers {
+            numbers: [0; 16],
+            count: 0,
+        };
+        for place in 0..16 {
+            if !self.is_at(Sign::Space) {
                 return Ok(draws);
-            };
-            let number: u32 = self.field()?;
-            draws.add(number);
+            }
+            draws.numbers[place] = self.field()?;
+            draws.count = place + 1;
         }
         Ok(draws)
-    }
-
-    // The draws in their brackets: `(draws N...)`.
-    fn draws_form(&mut self) -> Result<Draws, Fault>
-        ensures { Follows draws_form self.old self.new result }
-    {
-        self.open()?;
-        let _name: DrawsName = self.word()?;
-        let draws = self.drawing()?;
-        self.close()?;
-        Ok(draws)
-    }
-
-    // The draws behind a space, read as a line of their own.
-    fn draws(&mut self) -> Result<Draws, Fault>
-        ensures { Follows draws self.old self.new result }
-    {
-        self.space()?;
-        let mut inner = self.inner();
-        let draws = inner.draws_form();
-        self.pos = inner.pos;
-        draws
     }
 
     // What follows the word `make`.
@@ -76,18 +63,19 @@ impl Reader<'_> {
         let (nr, tc) = self.two()?;
         let (ts, tj) = self.two()?;
         let nw: u32 = self.field()?;
-        let (mask, value) = self.mask()?;
-        let draws = self.draws()?;
+        let plan: MaskPlan = self.inner_field()?;
+        let draws: FewNumbers = self.inner_field()?;
         Ok(MakeForm {
-            address,
+            card: Card {
+                address,
+                nr,
+                tc,
+                ts,
+                tj,
+                nw,
+            },
             channel,
-            nr,
-            tc,
-            ts,
-            tj,
-            nw,
-            mask,
-            value,
+            plan,
             draws,
         })
     }

@@ -29,15 +29,3 @@ pub enum ContentName {
     Move,
     Other,
 }
-
-// The word before a mask and its value.
-#[derive(Clone, Copy)]
-pub enum MaskName {
-    Mask,
-}
-
-// The word before the draws.
-#[derive(Clone, Copy)]
-pub enum DrawsName {
-    Draws,
-}

@@ -11,10 +11,10 @@ fn is_trim(bytes: &[u8]) -> bool
     ensures fits { result ≡ true → Trim bytes.now }
     ensures refused { result ≡ false → NumberOf bytes.now None }
 {
-    match bytes.len() {
-        0 => false,
-        1 => true,
-        len => len <= MOST_DIGITS && bytes[0] != b'0',
+    match bytes {
+        [] => false,
+        [_] => true,
+        [first, ..] => bytes.len() <= MOST_DIGITS && *first != b'0',
     }
 }
 
@@ -23,6 +23,7 @@ fn digits(bytes: &[u8]) -> Option<u32>
     requires { Trim bytes.now }
     ensures { NumberOf bytes.now result }
 {
+    // A fold would be no plainer: its closure would answer an option, and be told each time how large `n` is at most.
     let mut n = 0;
     for b in bytes {
         if !b.is_ascii_digit() {

@@ -10,13 +10,19 @@ pub struct Reader<'a> {
     ghost short: { length line.now ≤ 200 },
 }
 
-// What stands at the cursor: a bracket, a space, a word, or the end of the line. A word is a part of the line,
-// a whole run of other bytes, with its place, counted from 1.
-#[derive(Clone, Copy)]
-pub enum Item<'a> {
+// A bracket or a space: the items of one byte, each written in one way.
+#[derive(Clone, Copy, PartialEq, Eq)]
+pub enum Sign {
     Open,
     Close,
     Space,
+}
+
+// What stands at the cursor: a bracket or a space, a word, or the end of the line. A word is a part of the line,
+// a whole run of other bytes, with its place, counted from 1.
+#[derive(Clone, Copy)]
+pub enum Item<'a> {
+    Sign(Sign),
     Word { bytes: &'a [u8], place: usize },
     End,
 }

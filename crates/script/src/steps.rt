@@ -1,37 +1,33 @@
 // The steps of the reader: each takes one item, or stays at it and says that it is a fault.
-ghost use Rattle.std.specs.Prelude.{◌≡◌, ℕ, ◌+◌, ◌<◌, ◌≤◌, true, false, length, drop, slice_index};
-ghost use Rattle.script.specs.Cursor.{ahead, line_of, place_in, rest, width, Follows};
+ghost use Rattle.std.specs.Prelude.{◌≡◌, ℕ, ◌+◌, ◌<◌, ◌≤◌, true, false, length, drop, slice_index, if◌then◌else◌};
+ghost use Rattle.script.specs.Cursor.{ahead, line_of, passes, place_in, rest, width, Follows};
 ghost use Rattle.script.specs.Items.{in_word, items};
-ghost use Rattle.script.specs.Reading.{at_end, closes, field, means, opens, parts};
+ghost use Rattle.script.specs.Reading.{at_end, field, got, means, stuck};
 ghost use Rattle.script.specs.Script.{two};
+ghost use Rattle.script.specs.Words.{only};
 ghost use Rattle.script.specs.declared.fault.Fault.TheVariants.{Malformed};
 
 use crate::fault::Fault;
-use crate::reader::{Item, Reader};
+use crate::reader::{Item, Reader, Sign};
 use crate::words::Word;
 
 // Whether a byte is part of a word.
 fn in_word(b: u8) -> bool
     ensures { result ≡ in_word b }
 {
-    match char::from(b) {
-        '(' | ')' | ' ' => false,
-        _ => true,
-    }
+    !matches!(char::from(b), '(' | ')' | ' ')
 }
 
-// Where the run of word bytes that begins at a place ends.
-fn word_end(line: &[u8], from: usize) -> usize
-    ensures starts { from ≤ result }
-    ensures within { from ≤ length line.now → result ≤ length line.now }
-    ensures inside { (k : ℕ) → from ≤ k → k < result → in_word (slice_index line.now k) ≡ true }
-    ensures stops { result < length line.now → in_word (slice_index line.now result) ≡ false }
+// How many of the first bytes are part of a word.
+fn word_length(bytes: &[u8]) -> usize
+    ensures within { result ≤ length bytes.now }
+    ensures inside { (k : ℕ) → k < result → in_word (slice_index bytes.now k) ≡ true }
+    ensures stops { result < length bytes.now → in_word (slice_index bytes.now result) ≡ false }
 {
-    let mut end = from;
-    while end < line.len() && in_word(line[end]) {
-        end += 1;
-    }
-    end
+    bytes
+        .iter()
+        .position(|b| !in_word(*b))
+        .unwrap_or(bytes.len())
 }
 
 impl<'a> Reader<'a> {
@@ -41,17 +37,20 @@ impl<'a> Reader<'a> {
         ensures placed { place_in result (self.now.pos + 1) ≡ self.now.pos + 1 }
         ensures ahead { rest self.now ≡ ahead result (items (drop (self.now.pos + width result) (line_of self.now))) }
     {
-        if self.pos >= self.line.len() {
+        let Some(byte) = self.line.get(self.pos) else {
             return Item::End;
-        }
-        match char::from(self.line[self.pos]) {
-            '(' => Item::Open,
-            ')' => Item::Close,
-            ' ' => Item::Space,
-            _ => Item::Word {
-                bytes: &self.line[self.pos..word_end(self.line, self.pos)],
-                place: self.pos + 1,
-            },
+        };
+        match char::from(*byte) {
+            '(' => Item::Sign(Sign::Open),
+            ')' => Item::Sign(Sign::Close),
+            ' ' => Item::Sign(Sign::Space),
+            _ => {
+                let rest = &self.line[self.pos..];
+                Item::Word {
+                    bytes: &rest[..word_length(rest)],
+                    place: self.pos + 1,
+                }
+            }
         }
     }
 
@@ -64,43 +63,23 @@ impl<'a> Reader<'a> {
         }
     }
 
-    // An opening bracket.
-    pub(crate) fn open(&mut self) -> Result<(), Fault>
-        ensures { Follows opens self.old self.new result }
+    // Whether this bracket or space is the item at the cursor.
+    pub(crate) fn is_at(&self, sign: Sign) -> bool
+        ensures within { result ≡ true → self.now.pos < length (line_of self.now) }
+        ensures passes { passes sign (rest self.now) ≡ (if result then got tt (items (drop (self.now.pos + 1) (line_of self.now))) else stuck (rest self.now)) }
     {
-        match self.item() {
-            Item::Open => {
-                self.pos += 1;
-                Ok(())
-            }
-            _ => Err(self.fault()),
-        }
+        matches!(self.item(), Item::Sign(found) if found == sign)
     }
 
-    // A closing bracket.
-    pub(crate) fn close(&mut self) -> Result<(), Fault>
-        ensures { Follows closes self.old self.new result }
+    // A bracket or a space.
+    pub(crate) fn pass(&mut self, sign: Sign) -> Result<(), Fault>
+        ensures { Follows (passes sign) self.old self.new result }
     {
-        match self.item() {
-            Item::Close => {
-                self.pos += 1;
-                Ok(())
-            }
-            _ => Err(self.fault()),
+        if !self.is_at(sign) {
+            return Err(self.fault());
         }
-    }
-
-    // A space.
-    pub(crate) fn space(&mut self) -> Result<(), Fault>
-        ensures { Follows parts self.old self.new result }
-    {
-        match self.item() {
-            Item::Space => {
-                self.pos += 1;
-                Ok(())
-            }
-            _ => Err(self.fault()),
-        }
+        self.pos += 1;
+        Ok(())
     }
 
     // The end of the line.
@@ -120,20 +99,29 @@ impl<'a> Reader<'a> {
         let Item::Word { bytes, place } = self.item() else {
             return Err(self.fault());
         };
-        match T::of_word(bytes) {
-            Some(value) => {
+        let value = T::of_word(bytes).ok_or(Fault::Malformed { place })?;
+        self.pos += bytes.len();
+        Ok(value)
+    }
+
+    // The word that is wanted here, and no other.
+    pub(crate) fn keyword(&mut self, name: &str) -> Result<(), Fault>
+        ensures { Follows (means (only name.now)) self.old self.new result }
+    {
+        match self.item() {
+            Item::Word { bytes, .. } if bytes == name.as_bytes() => {
                 self.pos += bytes.len();
-                Ok(value)
+                Ok(())
             }
-            None => Err(Fault::Malformed { place }),
+            _ => Err(self.fault()),
         }
     }
 
-    // A space and such a word.
+    // A space and a word that stands for a value.
     pub(crate) fn field<T: Word>(&mut self) -> Result<T, Fault>
         ensures { Follows (field T.Word.stands) self.old self.new result }
     {
-        self.space()?;
+        self.pass(Sign::Space)?;
         self.word()
     }
 
@@ -141,8 +129,6 @@ impl<'a> Reader<'a> {
     pub(crate) fn two(&mut self) -> Result<(u32, u32), Fault>
         ensures { Follows two self.old self.new result }
     {
-        let first: u32 = self.field()?;
-        let second: u32 = self.field()?;
-        Ok((first, second))
+        Ok((self.field()?, self.field()?))
     }
 }

@@ -9,62 +9,58 @@ mod tests {
     use signalling::content::{Content, FirstIdent};
     use std::test::Fail;
 
-    // Lines with the number and the place of their fault, or 0 and 0 where there is none.
-    static PLACES: [(&str, u32, usize); 34] = [
-        ("", 31, 1),
-        ("(take)", 0, 0),
-        ("(take", 31, 6),
-        ("(take )", 31, 6),
-        ("(tak", 31, 2),
-        ("(takes)", 31, 2),
-        ("take", 31, 1),
-        (" (take)", 31, 1),
-        ("()", 31, 2),
-        ("(take))", 31, 7),
-        ("(take) ", 31, 7),
-        ("(tune 5)", 0, 0),
-        ("(tune\t5)", 31, 2),
-        ("(tune 05)", 31, 7),
-        ("(tune 0)", 0, 0),
-        ("(tune 1234567)", 0, 0),
-        ("(tune 12345678)", 31, 7),
-        ("(tune 5x)", 31, 7),
-        ("(tune  5)", 31, 7),
-        ("(tune)", 31, 6),
-        ("(tune 5", 31, 8),
-        ("(tune 5 )", 31, 8),
-        ("(begin rqe)", 0, 0),
-        ("(begin RQE)", 31, 8),
-        ("(slot (mark))", 0, 0),
-        ("(slot (mark))x", 31, 14),
-        ("(slot 77 (mark))", 0, 0),
-        ("(slot 77 (mark x)", 31, 15),
-        ("(slot 77(mark))", 31, 9),
-        ("(slot x (mark))", 31, 7),
-        ("(slot (aloha alhq 1 2 3 4))", 31, 14),
-        ("(make 1 2 3 4 5 6 7 (mask 8 9) (draws))", 0, 0),
-        ("(make 1 2 3 4 5 6 7 (mask 8 9) (draws ))", 31, 39),
+    // Lines with the number and the place of their fault, where there is one.
+    static PLACES: [(&str, Option<(u32, usize)>); 34] = [
+        ("", Some((31, 1))),
+        ("(take)", None),
+        ("(take", Some((31, 6))),
+        ("(take )", Some((31, 6))),
+        ("(tak", Some((31, 2))),
+        ("(takes)", Some((31, 2))),
+        ("take", Some((31, 1))),
+        (" (take)", Some((31, 1))),
+        ("()", Some((31, 2))),
+        ("(take))", Some((31, 7))),
+        ("(take) ", Some((31, 7))),
+        ("(tune 5)", None),
+        ("(tune\t5)", Some((31, 2))),
+        ("(tune 05)", Some((31, 7))),
+        ("(tune 0)", None),
+        ("(tune 1234567)", None),
+        ("(tune 12345678)", Some((31, 7))),
+        ("(tune 5x)", Some((31, 7))),
+        ("(tune  5)", Some((31, 7))),
+        ("(tune)", Some((31, 6))),
+        ("(tune 5", Some((31, 8))),
+        ("(tune 5 )", Some((31, 8))),
+        ("(begin rqe)", None),
+        ("(begin RQE)", Some((31, 8))),
+        ("(slot (mark))", None),
+        ("(slot (mark))x", Some((31, 14))),
+        ("(slot 77 (mark))", None),
+        ("(slot 77 (mark x)", Some((31, 15))),
+        ("(slot 77(mark))", Some((31, 9))),
+        ("(slot x (mark))", Some((31, 7))),
+        ("(slot (aloha alhq 1 2 3 4))", Some((31, 14))),
+        ("(make 1 2 3 4 5 6 7 (mask 8 9) (draws))", None),
+        ("(make 1 2 3 4 5 6 7 (mask 8 9) (draws ))", Some((31, 39))),
         (
             "(make 1 2 3 4 5 6 7 (mask 8 9) (draws 1 2 3 4 5 6 7 8 9 10 11 12 13 14 15 16 17))",
-            31,
-            77,
+            Some((31, 77)),
         ),
     ];
 
     // The number and the place of a line's fault.
-    fn fault_of(line: &str) -> (u32, usize) {
-        match read(line.as_bytes()) {
-            Ok(_) => (0, 0),
-            Err(fault) => (fault.number(), fault.place()),
-        }
+    fn fault_of(line: &str) -> Option<(u32, usize)> {
+        read(line.as_bytes())
+            .err()
+            .map(|fault| (fault.number(), fault.place()))
     }
 
     #[test]
     fn places(rt: HostRuntime) {
-        for (line, number, place) in PLACES {
-            let found = fault_of(line);
-            assert_eq!(rt; found.0, number, "{}", line);
-            assert_eq!(rt; found.1, place, "{}", line);
+        for (line, fault) in PLACES {
+            assert_eq!(rt; fault_of(line), fault, "{}", line);
         }
     }
 
@@ -122,8 +118,8 @@ mod tests {
         let Form::Make(make) = form else {
             return Err(Fail::new("a make"));
         };
-        assert_eq!(rt; make.nw, 7);
-        assert_eq!(rt; make.value, 9);
+        assert_eq!(rt; make.card.nw, 7);
+        assert_eq!(rt; make.plan.value, 9);
         assert_eq!(rt; make.draws.count, 3);
         let third = make.draws.numbers[2];
         let fourth = make.draws.numbers[3];

@@ -5,6 +5,7 @@ use Rattle.signalling.specs.declared.content.Content.TheVariants.{Deaf, Data, Al
 use Rattle.signalling.specs.declared.content.FirstIdent.{FirstIdent}
 use Rattle.signalling.specs.declared.content.FirstIdent.TheVariants.{Regi, Plain}
 use Rattle.signalling.specs.declared.content.Heard.{Heard}
+use Rattle.signalling.specs.declared.division.Division.{Division}
 use Rattle.signalling.specs.declared.refusal.Refusal.{Refusal}
 use Rattle.signalling.specs.declared.refusal.Refusal.TheVariants.{SystemCode, ContentField}
 
@@ -26,11 +27,15 @@ abbrev pub first_in_range : FirstIdent → Bool
 first_in_range Regi = true
 first_in_range (Plain ident) = nat_le ident 8191
 
--- one-bit flags, Aloha numbers of four bits (two in Go To Channel), WT of three bits, M up to 20, addresses and channels
+-- an address qualifier M is at most 20, the bits of an address
+abbrev pub division_in_range : Division → Bool
+division_in_range d = nat_le d.qualifier 20 && address_in_range d.address
+
+-- one-bit flags, Aloha numbers of four bits (two in Go To Channel), WT of three bits, divisions, addresses and channels
 abbrev pub content_in_range : Content → Bool
 content_in_range Deaf = true
 content_in_range (Data rsa mine) = nat_le rsa 1 && nat_le mine 1
-content_in_range (Aloha function number wt m address) = nat_le number 15 && (nat_le wt 7 && (nat_le m 20 && address_in_range address))
+content_in_range (Aloha function number wt d) = nat_le number 15 && (nat_le wt 7 && division_in_range d)
 content_in_range (Reply kind qual number first to) = nat_le qual 1 && (nat_le number 15 && (first_in_range first && address_in_range to))
 content_in_range (Go to partner channel number) = address_in_range to && (address_in_range partner && (channel_in_range channel && nat_le number 3))
 content_in_range (Ahy ad to) = nat_le ad 1 && address_in_range to
@@ -38,7 +43,7 @@ content_in_range (Ahyq ipfixi to) = nat_le ipfixi 1 && address_in_range to
 content_in_range (Head to) = address_in_range to
 content_in_range Mark = true
 content_in_range Bcast = true
-content_in_range (Move m address channel) = nat_le m 20 && (address_in_range address && channel_in_range channel)
+content_in_range (Move d channel) = division_in_range d && channel_in_range channel
 content_in_range Other = true
 
 -- the code is judged before the content

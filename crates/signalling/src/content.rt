@@ -1,8 +1,10 @@
 // The records that a decoder delivers: one for each slot heard. A field holds whatever number the decoder
-// brings; `range` says which numbers there are.
+// brings, a flag of one bit too; `range` says which numbers there are.
+
+use crate::division::Division;
 
 // The Aloha function of an ALOHA message: which kinds of request it invites (7.3.2).
-#[derive(Clone, Copy)]
+#[derive(Clone, Copy, PartialEq, Eq)]
 pub enum Function {
     Alh,
     Alhs,
@@ -15,7 +17,7 @@ pub enum Function {
 }
 
 // The kind of an acknowledgement (8.2.2); `Acko` is any other than the first five.
-#[derive(Clone, Copy)]
+#[derive(Clone, Copy, PartialEq, Eq)]
 pub enum ReplyKind {
     Ack,
     Acki,
@@ -25,15 +27,16 @@ pub enum ReplyKind {
     Acko,
 }
 
-// The first ident of an acknowledgement: the registration dummy REGI, or a plain ident.
-#[derive(Clone, Copy)]
+// The first ident of an acknowledgement: the registration dummy REGI, or a plain ident. It is no `Option`, since
+// REGI is an ident as well, and not the absence of one.
+#[derive(Clone, Copy, PartialEq, Eq)]
 pub enum FirstIdent {
     Regi,
     Plain(u32),
 }
 
 // What was decoded in one slot.
-#[derive(Clone, Copy)]
+#[derive(Clone, Copy, PartialEq, Eq)]
 pub enum Content {
     // nothing could be decoded
     Deaf,
@@ -42,13 +45,12 @@ pub enum Content {
         rsa: u32,
         mine: u32,
     },
-    // an ALOHA message: function, Aloha number N, response delay WT, address qualifier M and address
+    // an ALOHA message: function, Aloha number N, response delay WT, and the division that M and the address name
     Aloha {
         function: Function,
         number: u32,
         wt: u32,
-        qualifier: u32,
-        address: u32,
+        division: Division,
     },
     // an acknowledgement
     Reply {
@@ -83,10 +85,9 @@ pub enum Content {
     Mark,
     // a broadcast
     Bcast,
-    // an order to the sets that M and the address name to change the control channel
+    // an order to the sets of a division to change the control channel
     Move {
-        qualifier: u32,
-        address: u32,
+        division: Division,
         channel: u32,
     },
     // any other address codeword without an Aloha number
@@ -94,17 +95,16 @@ pub enum Content {
 }
 
 // One heard slot: its system code, where one was decoded, and its content.
-#[derive(Clone, Copy)]
+#[derive(Clone, Copy, PartialEq, Eq)]
 pub struct Heard {
     pub code: Option<u32>,
     pub content: Content,
 }
 
 // What an Aloha message has a unit note: the function, the division of the population, and the delay WAIT.
-#[derive(Clone, Copy)]
+#[derive(Clone, Copy, PartialEq, Eq)]
 pub struct Noted {
     pub function: Function,
-    pub qualifier: u32,
-    pub address: u32,
+    pub division: Division,
     pub wait: u32,
 }

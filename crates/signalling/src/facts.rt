@@ -3,7 +3,7 @@ ghost use Rattle.std.specs.Prelude.{◌≡◌, true};
 ghost use Rattle.signalling.specs.Facts.{WorkedFacts};
 
 use crate::content::{Content, FirstIdent, ReplyKind};
-use crate::division::{is_admitted, is_applicable};
+use crate::division::Division;
 use crate::tables::{four_bit_length, two_bit_length, wait_of};
 
 // The tables' rows: Aloha numbers and a response delay.
@@ -17,10 +17,22 @@ fn tables_hold() -> bool
 fn divisions_hold() -> bool
     ensures { result ≡ true }
 {
-    is_applicable(2, 9, 5)
-        && !is_applicable(3, 9, 5)
-        && is_admitted(true, 3, 9, 5)
-        && !is_admitted(true, 20, 9, 5)
+    let of_four = Division {
+        qualifier: 2,
+        address: 9,
+    };
+    let of_eight = Division {
+        qualifier: 3,
+        address: 9,
+    };
+    let of_all = Division {
+        qualifier: 20,
+        address: 9,
+    };
+    of_four.applies_to(5)
+        && !of_eight.applies_to(5)
+        && of_eight.admits(true, 5)
+        && !of_all.admits(true, 5)
 }
 
 // Free and withdrawn return slots.
@@ -40,7 +52,8 @@ fn slots_hold() -> bool
 
 // A self check for start-up: the facts hold of the definitions, and the code computes them.
 pub fn self_check() -> bool
-    ensures { (result ≡ true) × (WorkedFacts) }
+    ensures computed { result ≡ true }
+    ensures facts { WorkedFacts }
 {
     tables_hold() && divisions_hold() && slots_hold()
 }

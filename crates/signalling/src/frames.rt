@@ -5,17 +5,19 @@ ghost use Rattle.signalling.specs.Frames.{slots_of, kept_length};
 use crate::frame_length::FrameLength;
 
 impl FrameLength {
-    // The frame length of so many slots, where a frame can have so many.
+    // The frame length of so many slots, where a frame can have so many. No `TryFrom`: its error could say no more than
+    // `None` does.
     pub fn new(slots: u32) -> Option<FrameLength>
         ensures { slots_of result ≡ kept_length slots }
     {
-        if slots >= 1 && slots <= 32 {
+        if (1..=32).contains(&slots) {
             Some(FrameLength { slots })
         } else {
             None
         }
     }
 
+    // How many return slots the frame has.
     pub fn slots(self) -> u32
         ensures { result ≡ self.slots }
     {

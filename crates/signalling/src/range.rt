@@ -1,8 +1,9 @@
 // Which numbers a heard slot may hold.
 ghost use Rattle.std.specs.Prelude.{◌≡◌};
-ghost use Rattle.signalling.specs.Range.{address_in_range, channel_in_range, first_in_range, content_in_range, heard_in_range};
+ghost use Rattle.signalling.specs.Range.{address_in_range, channel_in_range, division_in_range, first_in_range, content_in_range, heard_in_range};
 
 use crate::content::{Content, FirstIdent, Heard};
+use crate::division::Division;
 use crate::refusal::Refusal;
 
 // Whether a number is an address: prefix and ident, 20 bits.
@@ -19,7 +20,17 @@ pub fn is_channel(channel: u32) -> bool
     channel <= 1_023
 }
 
+impl Division {
+    // Whether M and the address are in range.
+    pub fn is_in_range(self) -> bool
+        ensures { result ≡ division_in_range self }
+    {
+        self.qualifier <= 20 && is_address(self.address)
+    }
+}
+
 impl FirstIdent {
+    // Whether a plain ident has 13 bits at most.
     pub fn is_in_range(self) -> bool
         ensures { result ≡ first_in_range self }
     {
@@ -40,10 +51,9 @@ impl Content {
             Content::Aloha {
                 number,
                 wt,
-                qualifier,
-                address,
+                division,
                 ..
-            } => *number <= 15 && *wt <= 7 && *qualifier <= 20 && is_address(*address),
+            } => *number <= 15 && *wt <= 7 && division.is_in_range(),
             Content::Reply {
                 qual,
                 number,
@@ -60,11 +70,7 @@ impl Content {
             Content::Ahy { ad, to } => *ad <= 1 && is_address(*to),
             Content::Ahyq { ipfixi, to } => *ipfixi <= 1 && is_address(*to),
             Content::Head { to } => is_address(*to),
-            Content::Move {
-                qualifier,
-                address,
-                channel,
-            } => *qualifier <= 20 && is_address(*address) && is_channel(*channel),
+            Content::Move { division, channel } => division.is_in_range() && is_channel(*channel),
             Content::Deaf | Content::Mark | Content::Bcast | Content::Other => true,
         }
     }
@@ -75,10 +81,8 @@ impl Heard {
     pub fn check(&self) -> Result<(), Refusal>
         ensures { result ≡ heard_in_range self.now }
     {
-        if let Some(code) = self.code {
-            if code > 32_767 {
-                return Err(Refusal::SystemCode);
-            }
+        if self.code.is_some_and(|code| code > 32_767) {
+            return Err(Refusal::SystemCode);
         }
         if !self.content.is_in_range() {
             return Err(Refusal::ContentField);

@@ -4,7 +4,6 @@ ghost use Rattle.signalling.specs.Frames.{slots_of};
 ghost use Rattle.signalling.specs.Reading.{marked, noted, moved, leaves_free};
 
 use crate::content::{Content, Noted};
-use crate::division::is_applicable;
 use crate::frame_length::FrameLength;
 use crate::tables::{four_bit_length, two_bit_length, wait_of};
 
@@ -30,13 +29,11 @@ impl Content {
             Content::Aloha {
                 function,
                 wt,
-                qualifier,
-                address,
+                division,
                 ..
             } => Some(Noted {
                 function: *function,
-                qualifier: *qualifier,
-                address: *address,
+                division: *division,
                 wait: wait_of(*wt),
             }),
             _ => None,
@@ -48,11 +45,7 @@ impl Content {
         ensures { result ≡ moved self.now own }
     {
         match self {
-            Content::Move {
-                qualifier,
-                address,
-                channel,
-            } if is_applicable(*qualifier, *address, own) => Some(*channel),
+            Content::Move { division, channel } if division.applies_to(own) => Some(*channel),
             _ => None,
         }
     }
@@ -62,20 +55,14 @@ impl Content {
         ensures { result ≡ leaves_free self.now own }
     {
         match self {
-            Content::Aloha {
-                qualifier,
-                address,
-                ..
-            } => *qualifier != 20 || is_applicable(*qualifier, *address, own),
+            Content::Aloha { division, .. } => {
+                division.qualifier != 20 || division.applies_to(own)
+            }
             Content::Reply { .. } | Content::Go { .. } | Content::Mark | Content::Bcast => true,
             Content::Ahy { ad, to } => *ad == 1 && *to != own,
             Content::Ahyq { ipfixi, to } => *ipfixi == 1 && *to != own,
             Content::Head { to } => *to != own,
-            Content::Move {
-                qualifier,
-                address,
-                ..
-            } => !is_applicable(*qualifier, *address, own),
+            Content::Move { division, .. } => !division.applies_to(own),
             Content::Data { rsa, mine } => *rsa == 1 && *mine == 0,
             Content::Deaf | Content::Other => false,
         }

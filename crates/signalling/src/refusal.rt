@@ -2,7 +2,7 @@
 ghost use Rattle.std.specs.Prelude.{◌≡◌};
 ghost use Rattle.signalling.specs.Refusals.{number_of};
 
-#[derive(Clone, Copy)]
+#[derive(Clone, Copy, PartialEq, Eq)]
 pub enum Refusal {
     // begin without a stay
     NoStay,
@@ -35,6 +35,7 @@ pub enum Refusal {
 }
 
 impl Refusal {
+    // The number of the refusal: a method, whose name says at each caller what a conversion to `u32` would hide.
     pub fn number(self) -> u32
         ensures { result ≡ number_of self }
     {

@@ -1,12 +1,17 @@
-// Following the control channel: how a heard slot starts, keeps and ends a stay, and what is noted in it.
-ghost use Rattle.std.specs.Prelude.{◌≡◌, if◌then◌else◌, Some, None};
-ghost use Rattle.rules.specs.Stations.{new_stay, acquired, retained, kept, heeding, seeking_on, acted, followed};
+// Following the control channel: how a heard slot starts, keeps and ends a stay, and what is noted in it. Plan and card
+// are lent side by side, as a set has them: a struct for the two would be made anew for each slot.
+ghost use Rattle.std.specs.Prelude.{◌≡◌};
+ghost use Rattle.std.specs.Option.{option_map};
+ghost use Rattle.signalling.specs.Reading.{marked};
+ghost use Rattle.rules.specs.Frames.{mark_of};
+ghost use Rattle.rules.specs.Stations.{new_stay, patient, acquired, retained, kept, heeding, seeking_on, acted, followed};
 
-use crate::frames::{enter, no_frames, slots_marked};
+use crate::frames::{enter, no_frames};
 use parts::plan::NetworkPlan;
 use rules::card::Card;
-use rules::station::{Station, Stay};
+use rules::station::{Mark, Station, Stay};
 use signalling::content::{Content, Function, Heard, Noted};
+use signalling::division::Division;
 
 // A stay as it begins: nothing of what was heard before is in it.
 fn new_stay(card: Card) -> Stay
@@ -16,8 +21,10 @@ fn new_stay(card: Card) -> Stay
         patience: card.ts,
         noted: Noted {
             function: Function::Alhx,
-            qualifier: 0,
-            address: 0,
+            division: Division {
+                qualifier: 0,
+                address: 0,
+            },
             wait: card.nw,
         },
         frames: no_frames(),
@@ -28,33 +35,18 @@ fn new_stay(card: Card) -> Stay
 fn acquire<P: NetworkPlan>(plan: &P, card: Card, code: Option<u32>) -> Option<Stay>
     ensures { result ≡ acquired (P.accepts plan.now) card code }
 {
-    match code {
-        Some(code) => {
-            if plan.is_accepted(code) {
-                Some(new_stay(card))
-            } else {
-                None
-            }
-        }
-        None => None,
-    }
+    code.is_some_and(|code| plan.is_accepted(code))
+        .then(|| new_stay(card))
 }
 
-// Whether a slot's system code, or its absence, leaves an active set its stay: an accepted code renews the patience
-// with slots that have none, and each of those slots uses it up.
-fn retain<P: NetworkPlan>(plan: &P, card: Card, stay: &mut Stay, code: Option<u32>) -> bool
-    ensures { (if result then Some stay.new else None) ≡ retained (P.accepts plan.now) card stay.old code }
+// With how much patience a slot's system code, or its absence, has an active set retain the channel; none where it is
+// lost. An accepted code renews the patience with slots that have none, and each of those slots uses it up.
+fn retain<P: NetworkPlan>(plan: &P, card: Card, stay: &Stay, code: Option<u32>) -> Option<u32>
+    ensures { option_map (patient stay.now) result ≡ retained (P.accepts plan.now) card stay.now code }
 {
     match code {
-        Some(code) => {
-            stay.patience = card.ts;
-            plan.is_accepted(code)
-        }
-        None => {
-            let last = stay.patience <= 1;
-            stay.patience = stay.patience.saturating_sub(1);
-            !last
-        }
+        Some(code) => plan.is_accepted(code).then_some(card.ts),
+        None => stay.patience.checked_sub(1).filter(|left| *left > 0),
     }
 }
 
@@ -63,13 +55,22 @@ fn keep<P: NetworkPlan>(plan: &P, card: Card, stay: &mut Option<Stay>, code: Opt
     ensures { stay.new ≡ kept (P.accepts plan.now) card stay.old code }
 {
     match stay {
-        Some(active) => {
-            if !retain(plan, card, active, code) {
-                *stay = None;
-            }
-        }
+        Some(active) => match retain(plan, card, active, code) {
+            Some(patience) => active.patience = patience,
+            None => *stay = None,
+        },
         None => *stay = acquire(plan, card, code),
     }
+}
+
+// The record of the frame that a content marks, under the function noted.
+fn marked_under(function: Function, content: &Content) -> Option<Mark>
+    ensures { result ≡ mark_of function (marked content.now) }
+{
+    content.marks().map(|frame| Mark {
+        function,
+        slots: frame.slots(),
+    })
 }
 
 // Adds what a slot's content says to a stay: an Aloha message is noted first, and a frame starts under the
@@ -78,7 +79,7 @@ fn heed(stay: &mut Stay, content: &Content)
     ensures { stay.new ≡ heeding stay.old content.now }
 {
     stay.noted = content.notes().unwrap_or(stay.noted);
-    enter(&mut stay.frames, stay.noted.function, slots_marked(content));
+    enter(&mut stay.frames, marked_under(stay.noted.function, content));
 }
 
 // A station that seeks on a channel.
@@ -98,10 +99,7 @@ fn act(station: &mut Station, order: Option<u32>, content: &Content)
 {
     if let Some(stay) = &mut station.stay {
         match order {
-            Some(new) => {
-                station.channel = new;
-                station.stay = None;
-            }
+            Some(new) => *station = seek(new),
             None => heed(stay, content),
         }
     }

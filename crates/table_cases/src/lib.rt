@@ -1,6 +1,6 @@
+// The tables of the standard and of the parts, row by row.
 #![tactic(auto)]
 
-// The tables of the standard and of the parts, row by row.
 #[cfg(test)]
 mod tests {
     use parts::choice::AnyService;
@@ -75,20 +75,6 @@ mod tests {
         assert!(rt; AnyService::Rqe.is_emergency());
     }
 
-    // A verdict as a word.
-    fn word(verdict: Verdict) -> &'static str {
-        match verdict {
-            Verdict::Nothing => "nothing",
-            Verdict::Interim => "interim",
-            Verdict::End(EndWord::Denied) => "denied",
-            Verdict::End(EndWord::Overload) => "overload",
-            Verdict::End(EndWord::Accepted) => "accepted",
-            Verdict::End(EndWord::Unavailable) => "unavailable",
-            Verdict::End(EndWord::Granted) => "granted",
-            Verdict::End(_) => "other",
-        }
-    }
-
     fn reply(kind: ReplyKind, qual: u32, first: FirstIdent, to: u32) -> Content {
         Content::Reply {
             kind,
@@ -103,37 +89,25 @@ mod tests {
     fn registration_verdicts(rt: HostRuntime) {
         let rqr = AnyService::Rqr;
         let regi = FirstIdent::Regi;
-        assert_eq!(rt;
-            word(rqr.judge(&reply(ReplyKind::Ack, 0, regi, 5), 5)),
-            "accepted"
+        assert!(rt;
+            rqr.judge(&reply(ReplyKind::Ack, 0, regi, 5), 5) == Verdict::End(EndWord::Accepted)
         );
-        assert_eq!(rt;
-            word(rqr.judge(&reply(ReplyKind::Ack, 1, regi, 5), 5)),
-            "nothing"
+        assert!(rt; rqr.judge(&reply(ReplyKind::Ack, 1, regi, 5), 5) == Verdict::Nothing);
+        assert!(rt; rqr.judge(&reply(ReplyKind::Acki, 1, regi, 5), 5) == Verdict::Interim);
+        assert!(rt; rqr.judge(&reply(ReplyKind::Acki, 0, regi, 5), 5) == Verdict::Nothing);
+        assert!(rt;
+            rqr.judge(&reply(ReplyKind::Ackx, 0, regi, 5), 5) == Verdict::End(EndWord::Denied)
         );
-        assert_eq!(rt;
-            word(rqr.judge(&reply(ReplyKind::Acki, 1, regi, 5), 5)),
-            "interim"
+        assert!(rt;
+            rqr.judge(&reply(ReplyKind::Ackx, 1, regi, 5), 5) == Verdict::End(EndWord::Overload)
         );
-        assert_eq!(rt;
-            word(rqr.judge(&reply(ReplyKind::Acki, 0, regi, 5), 5)),
-            "nothing"
-        );
-        assert_eq!(rt;
-            word(rqr.judge(&reply(ReplyKind::Ackx, 0, regi, 5), 5)),
-            "denied"
-        );
-        assert_eq!(rt;
-            word(rqr.judge(&reply(ReplyKind::Ackx, 1, regi, 5), 5)),
-            "overload"
-        );
-        assert_eq!(rt;
-            word(rqr.judge(&reply(ReplyKind::Ack, 0, regi, 6), 5)),
-            "nothing"
-        );
-        assert_eq!(rt;
-            word(rqr.judge(&reply(ReplyKind::Ack, 0, FirstIdent::Plain(9), 5), 5)),
-            "nothing"
+        for kind in [ReplyKind::Ackv, ReplyKind::Acke, ReplyKind::Acko] {
+            assert!(rt; rqr.judge(&reply(kind, 0, regi, 5), 5) == Verdict::Nothing);
+            assert!(rt; rqr.judge(&reply(kind, 1, regi, 5), 5) == Verdict::Nothing);
+        }
+        assert!(rt; rqr.judge(&reply(ReplyKind::Ack, 0, regi, 6), 5) == Verdict::Nothing);
+        assert!(rt;
+            rqr.judge(&reply(ReplyKind::Ack, 0, FirstIdent::Plain(9), 5), 5) == Verdict::Nothing
         );
     }
 
@@ -141,25 +115,23 @@ mod tests {
     fn call_verdicts(rt: HostRuntime) {
         let rqs = AnyService::Rqs;
         let plain = FirstIdent::Plain(9);
-        assert_eq!(rt;
-            word(rqs.judge(&reply(ReplyKind::Acki, 0, plain, 5), 5)),
-            "interim"
+        assert!(rt; rqs.judge(&reply(ReplyKind::Acki, 0, plain, 5), 5) == Verdict::Interim);
+        assert!(rt;
+            rqs.judge(&reply(ReplyKind::Ackv, 0, plain, 5), 5) == Verdict::End(EndWord::Unavailable)
         );
-        assert_eq!(rt;
-            word(rqs.judge(&reply(ReplyKind::Ackv, 0, plain, 5), 5)),
-            "unavailable"
+        assert!(rt;
+            rqs.judge(&reply(ReplyKind::Ackx, 1, plain, 5), 5) == Verdict::End(EndWord::Overload)
         );
-        assert_eq!(rt;
-            word(rqs.judge(&reply(ReplyKind::Ackx, 1, plain, 5), 5)),
-            "overload"
+        assert!(rt;
+            rqs.judge(&reply(ReplyKind::Ackx, 0, plain, 5), 5) == Verdict::End(EndWord::Denied)
         );
-        assert_eq!(rt;
-            word(rqs.judge(&reply(ReplyKind::Ack, 0, plain, 5), 5)),
-            "nothing"
-        );
-        assert_eq!(rt;
-            word(rqs.judge(&reply(ReplyKind::Acki, 0, FirstIdent::Regi, 5), 5)),
-            "nothing"
+        assert!(rt; rqs.judge(&reply(ReplyKind::Ack, 0, plain, 5), 5) == Verdict::Nothing);
+        assert!(rt; rqs.judge(&reply(ReplyKind::Acke, 0, plain, 5), 5) == Verdict::Nothing);
+        assert!(rt; rqs.judge(&reply(ReplyKind::Acko, 0, plain, 5), 5) == Verdict::Nothing);
+        assert!(rt; rqs.judge(&reply(ReplyKind::Acki, 0, plain, 6), 5) == Verdict::Nothing);
+        assert!(rt; rqs.judge(&Content::Mark, 5) == Verdict::Nothing);
+        assert!(rt;
+            rqs.judge(&reply(ReplyKind::Acki, 0, FirstIdent::Regi, 5), 5) == Verdict::Nothing
         );
         let go = Content::Go {
             to: 9,
@@ -167,8 +139,10 @@ mod tests {
             channel: 40,
             number: 0,
         };
-        assert_eq!(rt; word(AnyService::Rqe.judge(&go, 5)), "granted");
-        assert_eq!(rt; word(rqs.judge(&go, 6)), "nothing");
+        assert!(rt; AnyService::Rqe.judge(&go, 5) == Verdict::End(EndWord::Granted));
+        assert!(rt; AnyService::Rqr.judge(&go, 5) == Verdict::Nothing);
+        assert!(rt; rqs.judge(&go, 9) == Verdict::End(EndWord::Granted));
+        assert!(rt; rqs.judge(&go, 6) == Verdict::Nothing);
     }
 
     #[test]
@@ -183,12 +157,16 @@ mod tests {
         assert_eq!(rt; list.draw(frame), 19);
         assert_eq!(rt; list.draw(frame), 1);
         assert_eq!(rt; list.draw(frame), 1);
+        let mut borrowed = ListSource::new([18, 38].as_slice());
+        assert_eq!(rt; borrowed.draw(frame), 19);
+        assert_eq!(rt; borrowed.draw(frame), 1);
+        assert_eq!(rt; borrowed.draw(frame), 1);
         assert!(rt; RegisterSource::new(0).is_err());
-        if let Ok(register) = RegisterSource::new(3) {
-            let mut register = register;
-            assert_eq!(rt; register.draw(frame), 4);
-            assert_eq!(rt; register.draw(frame), 46081 % 19 + 1);
-        }
+        let Ok(mut register) = RegisterSource::new(3) else {
+            return Err(Fail::new("a register of 3 is refused"));
+        };
+        assert_eq!(rt; register.draw(frame), 4);
+        assert_eq!(rt; register.draw(frame), 46081 % 19 + 1);
         let mask = MaskPlan {
             mask: 32512,
             value: 256,

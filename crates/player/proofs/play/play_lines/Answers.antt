@@ -1,14 +1,14 @@
-use Rattle.player.specs.Benches.{bench_of}
-use Rattle.player.proofs.Plays.{played-more, played_over, printed_more, printed_all}
+use Rattle.std.proofs.Common.{arith, rules}
+use Rattle.std.proofs.lemmas.Grind.{common_steps}
+use Rattle.player.proofs.Plays.{played_more, played_over}
 use Rattle.player.proofs.play.play_lines.Goals as goal
 
-pub loop-at-preserved : goal.loop-at-preserved
-loop-at-preserved c =
-    let cut = c.line_end-end.ensures in
-    let turn = c.answer-next.ensures in
-    printed_more _ _ _ _ _ _ c.in_default.ensures
-    (played-more (bench_of c.loop-at.bench) c.args.script.now c.loop-at.at _ _ _ _ c.loop-at-test.true cut.line cut.behind turn.bench turn.answers)
-    c.loop-at.invariant
+pub loop-rest-preserved : goal.loop-rest-preserved
+loop-rest-preserved c =
+    let more = played_more c.loop-rest.bench c.loop-rest.rest.now (search rules) in
+    grind (arith, common_steps)
 
 pub returns : goal.returns
-returns c = printed_all _ _ _ (played_over _ _ _ c.loop-at-test.false) c.loop-at.invariant
+returns c =
+    let over = played_over c.loop-rest.bench c.loop-rest.rest.now (search rules) in
+    grind (arith, common_steps)

@@ -1,11 +1,12 @@
 -- A choice does not ask which codes are accepted, so the facts hold for any codes.
 use Rattle.std.proofs.Common.{rules}
+use Rattle.requests.proofs.choose.choose.Goals.{then-may_choose, else-may_choose}
 use Rattle.requests.proofs.choose.choose.Goals as goal
 
-pub returns-in-Trying-clause-job : goal.returns-in-Trying-clause-job
-returns-in-Trying-clause-job g c =
-    λ codes. let p = c.choice_after-choice.ensures.choice codes in let t = c.in-Trying.is in search rules
+pub returns-after-may_choose-clause-job : goal.returns-after-may_choose-clause-job
+returns-after-may_choose-clause-job g c =
+    λ codes. elim c.if-may_choose.branch [ then-may_choose w ↦ let p = w.pick.ensures.choice codes in search rules | else-may_choose w ↦ search rules ]
 
-pub returns-in-Trying-clause-after : goal.returns-in-Trying-clause-after
-returns-in-Trying-clause-after g c =
-    λ codes. let p = c.choice_after-choice.ensures.after codes in let t = c.in-Trying.is in search rules
+pub returns-after-may_choose-clause-after : goal.returns-after-may_choose-clause-after
+returns-after-may_choose-clause-after g c =
+    λ codes. elim c.if-may_choose.branch [ then-may_choose w ↦ let p = w.pick.ensures.after codes in search rules | else-may_choose w ↦ search rules ]

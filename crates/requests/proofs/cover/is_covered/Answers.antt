@@ -1,22 +1,21 @@
-use Rattle.std.proofs.Common.{◌≡◌, ℕ, ◌+◌, ◌<◌, Bool, true, false, ◌&&◌, ◌||◌, ltb, List, length, get_or, drop, sym, ap, ◌∙◌}
-use Rattle.std.proofs.lemmas.List.{at_drop_more, at_drop_all}
+use Rattle.std.proofs.Common.{◌≡◌, ℕ, ◌+◌, Bool, ◌||◌, List, [], ◌∷◌, Option, refl, ap, ◌∙◌, rules, tests}
+use Rattle.std.proofs.lemmas.Iterator.{YieldsList-from_slice}
+use Rattle.std.proofs.lemmas.Iterator.Consumers.{YieldsList-from_enumerate, YieldsList-at}
+use Rattle.std.proofs.lemmas.Iterator.Search.{any_from_yields_List}
+use Rattle.std.specs.List.{list_any, enumerate_from}
 use Rattle.signalling.specs.declared.content.Function.{Function}
 use Rattle.rules.specs.declared.station.Mark.{Mark}
-use Rattle.rules.specs.Frames.{slots_back, covered_from}
+use Rattle.rules.specs.Frames.{slots_back, covers, covered_from}
 use Rattle.requests.proofs.cover.is_covered.Goals as goal
 
-module _ (invites : Function → Bool) (place : ℕ) (marks : List Mark) (i : ℕ) where
-  -- the records from an index on cover where the one there does, or those behind it
-  one_more : (d : Mark) (here : Bool) → i < length marks → here ≡ (invites (get_or marks i d).function && ltb (slots_back place i) (get_or marks i d).slots) → covered_from invites place i (drop i marks) ≡ (here || covered_from invites place (i + 1) (drop (i + 1) marks))
-  unfolding covered_from
-  one_more d here lt e = at_drop_more (covered_from invites place i) marks i d lt ∙ ap (λ b. b || covered_from invites place (i + 1) (drop (i + 1) marks)) (sym e)
-
-pub loop-index-preserved : goal.loop-index-preserved
-loop-index-preserved g c = c.loop-index.invariant ∙ one_more _ _ _ _ _ false c.loop-index-test.true c.if-covers.ensures
-
-pub returns-then-covers : goal.returns-then-covers
-returns-then-covers g c = sym (c.loop-index.invariant ∙ one_more _ _ _ _ _ true c.loop-index-test.true c.if-covers.ensures)
+-- the records with their indices: some one covers
+as_any : (invites : Function → Bool) (place index : ℕ) (ms : List (Option Mark)) → list_any (λ p. covers invites (slots_back place p.0) p.1) (enumerate_from index ms) ≡ covered_from invites place index ms
+unfolding covered_from
+as_any invites place index [] = refl
+as_any invites place index (m ∷ ms) = ap (λ b. covers invites (slots_back place index) m || b) (as_any invites place (index + 1) ms)
 
 pub returns : goal.returns
-unfolding covered_from
-returns g c = sym (c.loop-index.invariant ∙ at_drop_all (covered_from (g.S.Service.invites c.args.service.now) c.args.place c.loop-index.index) _ _ c.loop-index-test.false)
+returns g c =
+    let test : ℕ × Option Mark → Bool = λ p. covers (g.S.Service.invites c.args.service.now) (slots_back c.args.frames.now.place p.0) p.1 in
+    any_from_yields_List test _ _ c.any.result c.any.ensures.ran (YieldsList-from_enumerate (YieldsList-at c.enumerate.ensures.source (YieldsList-from_slice c.args.frames.now.marks (cc))) (cc)) (λ x b q k. search (rules, tests))
+    ∙ as_any _ _ 0 c.args.frames.now.marks

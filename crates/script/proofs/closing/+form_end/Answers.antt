@@ -1,9 +1,6 @@
 use Rattle.std.proofs.Common.{sym, ◌∙◌, arith}
-use Rattle.script.proofs.Levels.{begins, passes, skips, never, ends}
+use Rattle.script.proofs.Levels.{passes, skips, never, ends}
 use Rattle.script.proofs.closing.+form_end.Goals as goal
-
-pub loop-at-init : goal.loop-at-init
-loop-at-init t c = begins _ _ c.requires.within c.requires.opens
 
 pub returns-in_err-at-in-40 : goal.returns-in_err-at-in-40
 returns-in_err-at-in-40 t c =

@@ -1,23 +1,20 @@
 use Rattle.std.proofs.Common.{None}
 use Rattle.script.specs.Script.{code, some_code}
-use Rattle.script.proofs.Follow.{done, goes, hands, none-at-open, some_unless, stays}
+use Rattle.script.proofs.Follow.{done, goes, none-at-open, some_unless, stays}
 use Rattle.script.proofs.reader.Reader.code.Goals as goal
 
-pub returns-in-Open : goal.returns-in-Open
+pub returns-then-is_at : goal.returns-then-is_at
 unfolding code
-returns-in-Open c = none-at-open some_code _ c.in-Open.ensures.ahead
+returns-then-is_at c = none-at-open some_code _ c.if-is_at.ensures.passes
 
 pub returns-in_err-code : goal.returns-in_err-code
 unfolding code
-returns-in_err-code c =
-    hands _ c.from_residual.ensures.1 (some_unless None c.item.result _ c.item.ensures.ahead c.in_default.not-Open (stays _ c.in_err-code.ensures))
+returns-in_err-code c = some_unless None _ c.if-is_at.ensures.passes (stays _ c.from_residual.ensures.1 c.in_err-code.ensures)
 
-pub returns-in_err-space : goal.returns-in_err-space
+pub returns-in_err-pass : goal.returns-in_err-pass
 unfolding code
-returns-in_err-space c =
-    hands _ c.from_residual-in_err-space.ensures.1 (some_unless None c.item.result _ c.item.ensures.ahead c.in_default.not-Open (goes _ c.in_ok-code.ensures (stays _ c.in_err-space.ensures)))
+returns-in_err-pass c = some_unless None _ c.if-is_at.ensures.passes (goes _ c.in_ok-code.ensures (stays _ c.from_residual-in_err-pass.ensures.1 c.in_err-pass.ensures))
 
 pub returns : goal.returns
 unfolding code
-returns c =
-    some_unless None c.item.result _ c.item.ensures.ahead c.in_default.not-Open (goes _ c.in_ok-code.ensures (goes _ c.in_ok-space.ensures done))
+returns c = some_unless None _ c.if-is_at.ensures.passes (goes _ c.in_ok-code.ensures (goes _ c.in_ok-pass.ensures done))

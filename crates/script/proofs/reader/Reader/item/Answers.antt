@@ -1,36 +1,25 @@
-use Rattle.std.proofs.Common.{◌≡◌, ◌<◌, ◌≤◌, true, ◌∷◌, length, get_or, drop, sym, refl, ap, ◌∙◌, arith}
+use Rattle.std.proofs.Common.{◌≡◌, ◌<◌, true, ◌∷◌, length, get_or, length-drop, take, drop, sym, ◌+◌, ◌-◌, ap, ◌∙◌, arith}
+use Rattle.std.proofs.lemmas.Bool.Decides.{nat_tests}
+use Rattle.std.proofs.lemmas.List.{drop-drop, get_or-drop, get_or_default, length-take-le}
+use Rattle.std.proofs.lemmas.Slice.{between_to_end}
 use Rattle.std.specs.List.{between}
 use Rattle.script.specs.Items.{in_word, items, word}
-use Rattle.script.proofs.Lines.{at-end, at_sign, at-word, past_first, plain_byte, spans}
+use Rattle.script.proofs.Lines.{at-word, past_first, plain_byte}
 use Rattle.script.proofs.reader.Reader.item.Goals as goal
 
-pub returns-then-self : goal.returns-then-self
-returns-then-self c = record { within = omega arith; placed = refl; ahead = at-end _ _ c.if-self.true }
-
-pub returns-in-40 : goal.returns-in-40
-returns-in-40 c =
-    record { within = omega arith; placed = refl; ahead = at_sign c.args.self.now.line.now c.args.self.now.pos 40 (omega arith) (sym c.from.ensures ∙ c.in-40.is) }
-
-pub returns-in-41 : goal.returns-in-41
-returns-in-41 c =
-    record { within = omega arith; placed = refl; ahead = at_sign c.args.self.now.line.now c.args.self.now.pos 41 (omega arith) (sym c.from.ensures ∙ c.in-41.is) }
-
-pub returns-in-32 : goal.returns-in-32
-returns-in-32 c =
-    record { within = omega arith; placed = refl; ahead = at_sign c.args.self.now.line.now c.args.self.now.pos 32 (omega arith) (sym c.from.ensures ∙ c.in-32.is) }
-
-pub returns-in_default : goal.returns-in_default
-returns-in_default c =
+pub returns-in_default-from-clause-ahead : goal.returns-in_default-from-clause-ahead
+returns-in_default-from-clause-ahead c =
     let l = c.args.self.now.line.now in
     let from = c.args.self.now.pos in
-    let to = c.word_end.result in
-    let e = c.word_end.ensures in
-    let in-line : from < length l = omega arith in
-    let plain : in_word (get_or l from 0) ≡ true = plain_byte (get_or l from 0) (omega (arith, c.from.ensures)) (omega (arith, c.from.ensures)) (omega (arith, c.from.ensures)) in
-    let within : to ≤ length l = e.within (omega arith) in
-    let spanned = spans l from to e.starts within in
-    record {
-      within = omega arith;
-      placed = refl;
-      ahead = at-word l from to (past_first l from to in-line plain e.starts e.stops) within e.inside e.stops ∙ ap (λ n. word (between from to l) ∷ items (drop n l)) (sym spanned);
-    }
+    let n = c.word_length.result in
+    let e = c.word_length.ensures in
+    let found = c.in-Some.ensures.lookup in
+    let some : from < length l = grind (arith, nat_tests, found.0) in
+    let bs = between from (length l) l in
+    let all : bs ≡ drop from l = between_to_end l from (length l) (omega arith) in
+    let long : length bs ≡ length l - from = ap length all ∙ length-drop from l in
+    let byte : get_or bs 0 0 ≡ c.from.result = ap (λ us. get_or us 0 0) all ∙ get_or-drop from l 0 0 ∙ ap (λ k. get_or l k 0) (omega arith) ∙ get_or_default l from 0 c.in-Some.byte.now some ∙ sym (c.from.ensures ∙ found.1) in
+    let plain : in_word c.from.result ≡ true = plain_byte c.from.result (omega arith) (omega arith) (omega arith) in
+    let width = length-take-le n bs e.within in
+    let behind : drop n bs ≡ drop (from + length (take n bs)) l = ap (drop n) all ∙ drop-drop n from l ∙ ap (λ k. drop (from + k) l) (sym width) in
+    ap items (sym all) ∙ at-word bs n (past_first bs n (omega arith) (ap in_word byte ∙ plain) e.stops) e.within e.inside e.stops ∙ ap (λ us. word (take n bs) ∷ items us) behind

@@ -1,8 +1,8 @@
-use Rattle.script.proofs.Follow.{goes, hands, stays}
+use Rattle.script.proofs.Follow.{goes, stays}
 use Rattle.script.proofs.reader.Reader.last.Goals as goal
 
-pub returns-in_err-close : goal.returns-in_err-close
-returns-in_err-close c = hands _ c.from_residual.ensures.1 (stays _ c.in_err-close.ensures)
+pub returns-in_err-pass : goal.returns-in_err-pass
+returns-in_err-pass c = stays _ c.from_residual.ensures.1 c.in_err-pass.ensures
 
 pub returns : goal.returns
-returns c = goes _ c.in_ok-close.ensures c.end.ensures
+returns c = goes _ c.in_ok-pass.ensures c.end.ensures

@@ -1,0 +1,11 @@
+use Rattle.script.specs.Reading.{enclosed_field}
+use Rattle.script.proofs.Follow.{goes, stays}
+use Rattle.script.proofs.reader.Reader.inner_field.Goals as goal
+
+pub returns-in_err-pass : goal.returns-in_err-pass
+unfolding enclosed_field
+returns-in_err-pass g c = stays _ c.from_residual.ensures.1 c.in_err-pass.ensures
+
+pub returns : goal.returns
+unfolding enclosed_field
+returns g c = goes _ c.in_ok-pass.ensures c.inner_form.ensures
