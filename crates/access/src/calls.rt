@@ -1,5 +1,5 @@
-// The calls of a set. Each that can be refused says in a clause of its own that the set is then as it was: a host looks
-// for it there, and no type could say it.
+// The calls of a set. Each that can be refused promises in a clause of its own that the set is then as it was: a name
+// for the clause would be no plainer than the clause, and no type could say it.
 ghost use Rattle.std.specs.Prelude.{◌≡◌, true, false, is_ok, Ok, Err, if◌then◌else◌};
 ghost use Rattle.signalling.specs.declared.refusal.Refusal.TheVariants.{PermitOut};
 ghost use Rattle.rules.specs.Calls.{tune_answer, tuned, begin_answer, begun, cancel_answer, cancelled, slot_answer, slotted};

@@ -1,4 +1,5 @@
-// A permit from hand to hand: taken from the set, and brought back as sent or held.
+// A permit from hand to hand: taken from the set, and brought back as sent or held. These two are public calls, each
+// with its own step behind the return; and each promises what a refusal leaves, as the calls of `calls.rt` do.
 ghost use Rattle.std.specs.Prelude.{◌≡◌, false, is_ok};
 ghost use Rattle.rules.specs.Calls.{taken_job, sent_job, held_job, wait_now, take_answer, taken, back_answer, sent_back, held_back};
 ghost use Rattle.access.specs.Sets.{in_condition, permit_for, taken_in};

@@ -18,19 +18,21 @@ pub fn play_listed(rt: &HostRuntime) -> anyhow::Result<Tally>
     ensures { IfOk result (λ tally. tally.differing ≤ tally.played) }
 {
     let list = fs::read_to_string(rt, "list")?;
-    let mut played = 0u32;
-    let mut differing = 0u32;
+    let mut tally = Tally {
+        played: 0,
+        differing: 0,
+    };
     for name in list.as_str().lines() {
         let script = fs::read(rt, format!(in rt.alloc(); "{name}.script")?.as_str())?;
         let expected = fs::read(rt, format!(in rt.alloc(); "{name}.expected")?.as_str())?;
         let agreed = agrees(rt.alloc(), script.as_slice(), expected.as_slice()).map_err(|_| anyhow!(
             "want of memory"
         ))?;
-        played = played.saturating_add(1);
-        differing = differing.saturating_add(u32::from(!agreed));
+        tally.played = tally.played.saturating_add(1);
+        tally.differing = tally.differing.saturating_add(u32::from(!agreed));
         if !agreed {
             println!(rt; "{name} differs")?;
         }
     }
-    Ok(Tally { played, differing })
+    Ok(tally)
 }

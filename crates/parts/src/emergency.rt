@@ -1,4 +1,5 @@
-// RQE: an emergency call, the only service that is an emergency. A type of its own, which proves the laws by itself.
+// RQE: an emergency call, the only service that is an emergency. A type of its own: one type for all three, with its
+// tables as fields, would be no plainer, and would have to hold proofs of the laws as well.
 ghost use Rattle.std.specs.Prelude.{true};
 ghost use Rattle.parts.specs.Services.{emergency_invited, call_verdict};
 ghost use Rattle.std.proofs.Common.{rules};

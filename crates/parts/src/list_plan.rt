@@ -13,7 +13,7 @@ impl NetworkPlan for ListPlan<'_> {
     ghost accepts = { λ plan code. stands_in code plan.codes.now };
 
     fn is_accepted(&self, code: u32) -> bool {
-        // this plan is to answer by a `for` over its shared slice, code by code
+        // by a `for` and not by `contains`, the form wanted here: the comparison with each code stands in this code
         for listed in self.codes {
             if *listed == code {
                 return true;

@@ -1,4 +1,5 @@
-// RQR: a registration. A type of its own, which proves the laws by itself.
+// RQR: a registration. A type of its own: one type for all three, with its tables as
+// fields, would be no plainer, and would have to hold proofs of the laws as well.
 ghost use Rattle.std.specs.Prelude.{false};
 ghost use Rattle.parts.specs.Services.{registration_invited, registration_verdict};
 ghost use Rattle.std.proofs.Common.{rules};

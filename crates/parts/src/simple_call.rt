@@ -1,4 +1,5 @@
-// RQS: an ordinary call. A type of its own, which proves the laws by itself.
+// RQS: an ordinary call. A type of its own: one type for all three, with its tables as
+// fields, would be no plainer, and would have to hold proofs of the laws as well.
 ghost use Rattle.std.specs.Prelude.{false};
 ghost use Rattle.parts.specs.Services.{call_invited, call_verdict};
 ghost use Rattle.std.proofs.Common.{rules};

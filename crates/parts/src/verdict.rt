@@ -23,7 +23,8 @@ pub enum EndWord {
     Granted,
 }
 
-// What a heard content means to a request: nothing, that it is to wait, or its end.
+// What a heard content means to a request: nothing, that it is to wait, or its end. An `Option` round the other two
+// would be no plainer: each caller reads one of three cases.
 #[derive(Clone, Copy, PartialEq, Eq)]
 pub enum Verdict {
     Nothing,

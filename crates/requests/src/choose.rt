@@ -1,5 +1,6 @@
 // How a request in try chooses a return slot, and when a permit is ready for it. No choice asks which system codes a
-// plan accepts: the clauses hold for any codes.
+// plan accepts: the clauses hold for any codes. The own address goes beside what it is compared with, since public
+// functions take the two so; a struct of them would be no plainer.
 ghost use Rattle.std.specs.Prelude.{◌≡◌, ℕ, Bool, ◌&&◌, if◌then◌else◌, ◌==◌};
 ghost use Rattle.signalling.specs.Division.{admits};
 ghost use Rattle.signalling.specs.Frames.{slots_of};

@@ -66,7 +66,7 @@ fn judge<S: Drop>(verdict: Verdict, job: Job<S>) -> Result<Job<S>, End>
 {
     match (job, verdict) {
         (Job::Free, _) => Ok(Job::Free),
-        // two arms: one pattern for both, beside the word, is not taken for a job that is moved out of
+        // two arms: tried as one pattern beside the word, which is not taken where the job is moved out of
         (Job::Trying { live, .. }, Verdict::End(word)) => Err(end_of(word, age(live))),
         (Job::Waiting { live }, Verdict::End(word)) => Err(end_of(word, age(live))),
         (

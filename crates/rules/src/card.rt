@@ -7,7 +7,7 @@ use signalling::refusal::Refusal;
 
 // The fitting card of a set: its own address, NR (the most transmissions of a request), the timers TC, TS and
 // TJ in slots, and NW (the response delay until an Aloha message is heard).
-#[derive(Clone, Copy, Debug, PartialEq, Eq)]
+#[derive(Clone, Copy, PartialEq, Eq)]
 pub struct Card {
     pub address: u32,
     pub nr: u32,

@@ -21,8 +21,9 @@ pub struct Live<S> {
 }
 
 // The return slot that a request is to be sent in: none chosen; chosen, so many slots ahead; the next one, with
-// a permit ready; or the next one, with its permit handed over.
-#[derive(Clone, Copy, Debug, PartialEq, Eq)]
+// a permit ready; or the next one, with its permit handed over. An `Option` round the three chosen cases would be no
+// plainer: each rule would match twice where it reads one of four.
+#[derive(Clone, Copy, PartialEq, Eq)]
 pub enum Choice {
     Unchosen,
     Ahead(u32),

@@ -3,7 +3,7 @@ use signalling::content::{Function, Noted};
 
 // What a set tells of itself: seeking a control channel, or active on one with no request, with a request
 // that tries for access, or with one that waits for further signalling.
-#[derive(Clone, Copy, Debug, PartialEq, Eq)]
+#[derive(Clone, Copy, PartialEq, Eq)]
 pub enum State {
     Seeking,
     Idle,

@@ -92,6 +92,10 @@ onto-more : (ns : List ℕ) (n : ℕ) (o : Out (List ℕ)) → onto ns (bind o (
 onto-more ns n (got ms ts) = ap (λ xs. got xs ts) (sym (append_assoc ns (n ∷ []) ms))
 onto-more ns n (stuck ts) = refl
 
+-- the same draws, with their count said in another way
+pub recount : {start here : Reader} {ns : List ℕ} {k n : ℕ} → k ≡ n → Drawing start here (record { numbers = ns; count = n }) n → Drawing start here (record { numbers = ns; count = k }) n
+recount e s = record { read = s.read; long = s.long; count = e; held = s.held; keeps = s.keeps; reads = s.reads }
+
 -- one more number
 pub more : {start here there : Reader} {d : FewNumbers} {n x : ℕ} → Drawing start here d n → n < 16 → (us : List Item) → parts (rest here) ≡ got tt us → Follows number here there (Ok x) → Drawing start there (record { numbers = set d.numbers n x; count = n + 1 }) (n + 1)
 unfolding then

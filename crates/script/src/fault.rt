@@ -28,7 +28,8 @@ impl Fault {
         }
     }
 
-    // The place of the fault: the byte of the line, counted from 1, or 0 where no line is at fault.
+    // The place of the fault: the byte of the line, counted from 1, or 0 where no line is at fault. It is no `Option`,
+    // since 0 is what is printed then; and a method, as the number is.
     pub fn place(self) -> usize
         ensures { result ≡ place_of self }
     {

@@ -45,12 +45,12 @@ impl Reader<'_> {
             numbers: [0; 16],
             count: 0,
         };
-        for place in 0..16 {
+        for number in &mut draws.numbers {
             if !self.is_at(Sign::Space) {
-                return Ok(draws);
+                break;
             }
-            draws.numbers[place] = self.field()?;
-            draws.count = place + 1;
+            *number = self.field()?;
+            draws.count += 1;
         }
         Ok(draws)
     }

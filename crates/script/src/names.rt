@@ -1,4 +1,5 @@
-// The words that begin a form.
+// The words that begin a form. A name is an enum of its own: it is read before the fields are, and a match on its bytes
+// in their place would be no plainer.
 
 // The first word of a line's form.
 #[derive(Clone, Copy)]

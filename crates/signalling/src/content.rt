@@ -1,5 +1,6 @@
-// The records that a decoder delivers: one for each slot heard. A field holds whatever number the decoder
-// brings, a flag of one bit too; `range` says which numbers there are.
+// The records that a decoder delivers: one for each slot heard. A field holds whatever number the decoder brings. A flag
+// of one bit is a number as well and no `bool`: refusing a number out of range with 22 is a promise. `range` says which
+// numbers there are.
 
 use crate::division::Division;
 
@@ -38,7 +39,7 @@ pub enum FirstIdent {
 // What was decoded in one slot.
 #[derive(Clone, Copy, PartialEq, Eq)]
 pub enum Content {
-    // nothing could be decoded
+    // nothing could be decoded; as a `None` round the others it would be no plainer, since each rule names it among them
     Deaf,
     // a data codeword: its reserved slot bit RSA, and whether its message is for this set
     Data {

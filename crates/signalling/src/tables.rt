@@ -1,5 +1,6 @@
-// Tables 7-1 and 7-2: what coded numbers stand for. As in the standard, a row is a number of slots, 0 for no frame;
-// `Content::marks` makes a frame length of it. One function a table: a match reads like the table's rows.
+// Tables 7-1 and 7-2: what coded numbers stand for. As in the standard, a row is a number of slots, 0 for no frame: an
+// `Option` in each row would be no plainer, and `Content::marks` makes one of it. One function a table: a match reads
+// like the table's rows.
 ghost use Rattle.std.specs.Prelude.{◌≡◌};
 ghost use Rattle.signalling.specs.Tables.{four_bit_length, two_bit_length, wait_of};
 

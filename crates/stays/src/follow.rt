@@ -1,5 +1,5 @@
 // Following the control channel: how a heard slot starts, keeps and ends a stay, and what is noted in it. Plan and card
-// are lent side by side, as a set has them: a struct for the two would be made anew for each slot.
+// are lent side by side, as a set has them: a struct for the two would be no plainer, and made anew for each slot.
 ghost use Rattle.std.specs.Prelude.{◌≡◌};
 ghost use Rattle.std.specs.Option.{option_map};
 ghost use Rattle.signalling.specs.Reading.{marked};
