@@ -29,8 +29,8 @@ fn split_line(script: &[u8]) -> (&[u8], &[u8])
     }
 }
 
-// Plays a script to a bare bench, and prints a line for each of its lines. `split_inclusive` was tried, and its proof did
-// not close: each cut asks for the meaning of the closure, where `split_line` is proved alone.
+// Plays a script to a bare bench, and prints a line for each of its lines. `split_inclusive` would be no plainer: each
+// cut asks for the meaning of its closure, and its line end has to be taken off, where `split_line` is proved alone.
 fn play_lines(printed: &mut String, script: &[u8]) -> fmt::Result
     ensures { OnOk result (string_bytes printed.new ≡ string_bytes printed.old ++ played_on None (lines script.now)) }
 {

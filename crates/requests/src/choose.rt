@@ -17,7 +17,8 @@ use rules::station::Stay;
 use signalling::content::{Content, Noted};
 use signalling::frame_length::FrameLength;
 
-// Whether the noted division lets a service in.
+// Whether the noted division lets a service in. The definition `let_in` would be no plainer in this clause and the next
+// two: it takes the meaning of all three parts, and here is a service alone.
 fn is_let_in<S: Service>(service: &S, noted: Noted, own: u32) -> bool
     ensures { result ≡ admits (S.emergency service.now) noted.division own }
 {
