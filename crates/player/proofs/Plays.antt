@@ -13,7 +13,7 @@ cut_on : (b n : ℕ) (bs : List ℕ) → (b ∷ take n bs) ∷ lines (drop (n + 
 cut_on b n bs = grind (arith, common_steps)
 
 -- a script that is not at its end has a first line, and then the lines behind it
-lines_cut : (b : ℕ) (bs : List ℕ) → lines (b ∷ bs) ≡ before_first (λ x. x == 10) (b ∷ bs) ∷ lines (after_first (λ x. x == 10) (b ∷ bs))
+pub lines_cut : (b : ℕ) (bs : List ℕ) → lines (b ∷ bs) ≡ before_first (λ x. x == 10) (b ∷ bs) ∷ lines (after_first (λ x. x == 10) (b ∷ bs))
 lines_cut b [] = last (b == 10)
   where
     last : (is : Bool) → cond is ([] ∷ lines []) (prefixed b (lines [])) ≡ take (cond (not is) 1 0) (b ∷ []) ∷ lines (drop (cond (not is) 1 0 + 1) (b ∷ []))

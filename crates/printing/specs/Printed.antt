@@ -8,7 +8,7 @@ use Rattle.rules.specs.declared.request.End.{End}
 use Rattle.rules.specs.declared.station.State.{State}
 use Rattle.rules.specs.declared.station.State.TheVariants.{Seeking, Idle, Trying, Waiting}
 use Rattle.printing.specs.declared.answer.Answer.{Answer}
-use Rattle.printing.specs.declared.answer.Answer.TheVariants.{Done, Heard, Empty, Refused, Bad}
+use Rattle.printing.specs.declared.answer.Answer.TheVariants.{Done, Heard, Empty, Refused, No, Bad}
 
 -- the word for what a request ended with
 abbrev pub end_word : EndWord → List ℕ
@@ -49,6 +49,7 @@ answer_form (Done end) = codes "(done" ++ last_part end
 answer_form (Heard t) = codes "(heard " ++ (state_word t.state ++ (ready_part t.ready ++ last_part t.end))
 answer_form Empty = codes "(none)"
 answer_form (Refused r) = codes "(no " ++ (decimal (number_of r) ++ codes ")")
+answer_form (No number) = codes "(no " ++ (decimal number ++ codes ")")
 answer_form (Bad fault) = codes "(bad " ++ (decimal (faults.number_of fault) ++ (codes " " ++ (decimal (faults.place_of fault) ++ codes ")")))
 
 -- an answer's line with its line end

@@ -14,6 +14,8 @@ pub enum Answer {
     Empty,
     // the call was refused
     Refused(Refusal),
+    // a refusal that is none of a set's, by its number: a host may have some of its own
+    No { number: u32 },
     // the line is no form, or out of turn
     Bad(Fault),
 }

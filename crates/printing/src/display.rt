@@ -80,6 +80,7 @@ impl fmt::Display for Answer {
             }
             Answer::Empty => write!(f, "(none)"),
             Answer::Refused(refusal) => write!(f, "(no {})", refusal.number()),
+            Answer::No { number } => write!(f, "(no {number})"),
             Answer::Bad(fault) => write!(f, "(bad {} {})", fault.number(), fault.place()),
         }
     }

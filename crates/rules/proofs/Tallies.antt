@@ -93,6 +93,9 @@ module _ {D S : Type 0} (m : Meaning D S) (card : Card) (range : Ranged card) wh
   pub wait-young : (l : Live S) → WaitIs m card range l → l.age < card.tc + card.tj
   wait-young l is = omega (arith, is.old, is.soon)
 
-  -- none is open
+  -- one is open, or none
+  pub one-open : (t : Tally S) (s : S) → t.request ≡ Some s → ◌≡◌ {A = ℕ} (cond (is_some t.request) 1 0) 1
+  one-open t s e = grind (arith, e)
+
   pub none_open : (t : Tally S) → t.request ≡ None → ◌≡◌ {A = ℕ} (cond (is_some t.request) 1 0) 0
   none_open t e = grind (arith, e)

@@ -22,7 +22,7 @@ use Rattle.rules.proofs.Cards.{Ranged}
 use Rattle.rules.proofs.Counts.{raised-one}
 
 -- where P holds of a request that goes on, and Q of what the next step has go on from there, Q holds of what goes on after both
-going_on : {S : Type 0} (P Q : Job S → Type 0) (p : Result (Job S) End) (next : Job S → Result (Job S) End) → IfOk p P → ((job : Job S) → P job → IfOk (next job) Q) → IfOk (onward p next) Q
+pub going_on : {S : Type 0} (P Q : Job S → Type 0) (p : Result (Job S) End) (next : Job S → Result (Job S) End) → IfOk p P → ((job : Job S) → P job → IfOk (next job) Q) → IfOk (onward p next) Q
 going_on P Q (Err e) next h k = tt
 going_on P Q (Ok job) next h k = k job h
 

@@ -18,6 +18,11 @@ unfolding then
 stays q {r = Ok v} h f = absurd h
 stays q {r = Err y} h f = record { keeps = f.keeps; reads = ap (λ o. bind o q) f.reads; place = h ∙ f.place }
 
+-- the fault is handed on as it is
+pub hands : {A : Type 0} {p : Reads A} {a b : Reader} {e : Fault} (r : Result A Fault) → IsErrAnd r (λ y. y ≡ e) → Follows p a b (Err e) → Follows p a b r
+hands (Ok v) h f = absurd h
+hands {p = p} {a} {b} (Err y) h f = subst (λ x. Follows p a b (Err x)) (sym h) f
+
 -- the last step has nothing left to read
 pub done : {A : Type 0} {v : A} {a : Reader} → Follows (gives v) a a (Ok v)
 done = record { keeps = refl; reads = refl; place = tt }

@@ -81,6 +81,6 @@ pub plain_byte : (b : ℕ) → (b ≡ 40 → ⊥) → (b ≡ 41 → ⊥) → (b 
 plain_byte b p q r = grind (arith, nat_tests)
 
 -- a run that begins with such a byte has it
-pub past_first : (bs : List ℕ) (n : ℕ) → 0 < length bs → in_word (get_or bs 0 0) ≡ true → (n < length bs → in_word (get_or bs n 0) ≡ false) → 0 < n
-past_first bs zero some plain stops = absurd (true≢false (sym plain ∙ stops some))
-past_first bs (suc n) some plain stops = omega arith
+pub past_first : (l : List ℕ) (from to : ℕ) → from < length l → in_word (get_or l from 0) ≡ true → from ≤ to → (to < length l → in_word (get_or l to 0) ≡ false) → from < to
+past_first l from to within plain h stops =
+    ⊎_elim (λ e. e) (λ back. absurd (true≢false (sym plain ∙ ap (λ i. in_word (get_or l i 0)) (let e : from ≡ to = omega arith in e) ∙ stops (omega arith)))) (cases_lt from to)

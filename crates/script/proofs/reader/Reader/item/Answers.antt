@@ -22,4 +22,4 @@ returns-in_default-from-clause-ahead c =
     let plain : in_word c.from.result ≡ true = plain_byte c.from.result (omega arith) (omega arith) (omega arith) in
     let width = length-take-le n bs e.within in
     let behind : drop n bs ≡ drop (from + length (take n bs)) l = ap (drop n) all ∙ drop-drop n from l ∙ ap (λ k. drop (from + k) l) (sym width) in
-    ap items (sym all) ∙ at-word bs n (past_first bs n (omega arith) (ap in_word byte ∙ plain) e.stops) e.within e.inside e.stops ∙ ap (λ us. word (take n bs) ∷ items us) behind
+    ap items (sym all) ∙ at-word bs n (past_first bs 0 n (omega arith) (ap in_word byte ∙ plain) (omega arith) e.stops) e.within e.inside e.stops ∙ ap (λ us. word (take n bs) ∷ items us) behind
